@@ -1,0 +1,13 @@
+//! Syntax trees of actor programs: one variant for each form of the grammar, lists for
+//! repetitions, and in `at` the byte of a form's first token.
+#![tactic(auto)]
+
+mod expression;
+mod lexeme;
+mod program;
+mod statement;
+
+pub use expression::{At, Expr, Op, Operand, Suffix};
+pub use lexeme::{Kind, Lexeme};
+pub use program::{BaseName, Behavior, Ident, Member, Param, Program, TypeName};
+pub use statement::{Aim, Arg, Assign, Chain, Declare, ForInit, Property, Send, Stage, Stmt};

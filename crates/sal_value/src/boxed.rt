@@ -1,0 +1,59 @@
+ghost use Rattle.std.specs.Prelude.{◌≡◌, IfOk};
+
+use crate::text::NoMemory;
+use std::alloc::Global;
+use std::marker::Model;
+
+/// One value on the heap, which contracts see as the value itself.
+///
+/// A type may lead back to itself through it.
+#[derive(Debug, Drop)]
+pub struct Boxed<T> {
+    inner: Box<T>,
+}
+
+impl<T> Model for Boxed<T> {
+    ghost Value = { T };
+
+    ghost coded = { T.code };
+
+    ghost view = { λ b. b.inner.value };
+}
+
+impl<T> Boxed<T> {
+    pub fn get(&self) -> &T
+        ensures { result.now ≡ self.now }
+    {
+        &self.inner
+    }
+
+    pub fn into_inner(self) -> T
+        ensures { result ≡ self }
+    {
+        let Boxed { inner } = self;
+        Box::into_inner(inner)
+    }
+}
+
+impl<T: Drop> Boxed<T> {
+    pub fn new(alloc: Global, value: T) -> Result<Boxed<T>, NoMemory>
+        ensures { IfOk result (λ b. b ≡ value) }
+    {
+        let inner = Box::new(alloc, value)?;
+        Ok(Boxed { inner })
+    }
+}
+
+impl<T: PartialEq> PartialEq for Boxed<T> {
+    ghost eq = { T.eq };
+
+    ghost laws = { T.PartialEq.laws };
+
+    fn eq(&self, other: &Boxed<T>) -> bool {
+        *self.inner == *other.inner
+    }
+}
+
+impl<T: Eq> Eq for Boxed<T> {
+    ghost laws = { T.Eq.laws };
+}
