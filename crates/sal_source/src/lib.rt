@@ -1,0 +1,2 @@
+//! The meaning of actor programs, by configurations and steps.
+#![tactic(auto)]

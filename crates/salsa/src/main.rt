@@ -1,0 +1,4 @@
+//! Runs actor programs.
+#![tactic(auto)]
+
+fn main() {}
