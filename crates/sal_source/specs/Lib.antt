@@ -1,1 +1,9 @@
+pub mod Table
+pub mod Keys
+pub mod Evaluation
+pub mod Handler
+pub mod Configuration
+pub mod Give
+pub mod Step
+pub mod Run
 pub mod Prints

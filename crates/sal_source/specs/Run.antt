@@ -1,0 +1,30 @@
+-- Runs: several steps from the first configuration.
+use Rattle.std.specs.Prelude.{◌≡◌, ℕ, suc, ◌<◌, List, [], ◌∷◌, length, take, Option, Some, None, option_and_then, Result, Ok, Err}
+use Rattle.sal_ast.specs.declared.program.Program.{Program}
+use Rattle.sal_source.specs.declared.state.Setup.{Setup}
+use Rattle.sal_source.specs.declared.state.Step.{Step}
+use Rattle.sal_source.specs.declared.state.PlayFault.{PlayFault}
+use Rattle.sal_source.specs.declared.state.PlayFault.TheVariants.{BadStep, Memory}
+use Rattle.sal_source.specs.Configuration.{Configuration, first}
+use Rattle.sal_source.specs.Step.{step}
+
+-- the configuration after these steps, or none at the first step that isn't possible
+unfoldable pub steps : Program → Configuration → List Step → Option Configuration
+steps p c [] = Some c
+steps p c (s ∷ ss) = option_and_then (λ d. steps p d ss) (step p c s)
+
+abbrev pub play : Program → Setup → List Step → Option Configuration
+play p setup ss = steps p (first p setup) ss
+
+-- the first i steps are possible, and the next one isn't
+pub record IsFirstBad (p : Program) (setup : Setup) (ss : List Step) (i : ℕ) : Type 0 where
+  pub before : Configuration
+  pub within : i < length ss
+  pub good : play p setup (take i ss) ≡ Some before
+  pub bad : play p setup (take (suc i) ss) ≡ None
+
+-- what playing the steps answers
+abbrev pub Plays : Program → Setup → List Step → Result Configuration PlayFault → Type 0
+Plays p setup ss (Ok c) = play p setup ss ≡ Some c
+Plays p setup ss (Err (BadStep i)) = IsFirstBad p setup ss i
+Plays p setup ss (Err Memory) = Unit {0}
