@@ -1,6 +1,7 @@
 //! Names, locators and values of actor programs, and the lists, texts and boxes that hold them.
 #![tactic(auto)]
 
+mod address;
 mod boxed;
 mod list;
 mod name;

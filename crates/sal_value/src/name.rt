@@ -1,4 +1,8 @@
-use crate::text::Text;
+ghost use Rattle.std.specs.Prelude.{◌≡◌, IfOk};
+
+use crate::address::push_address;
+use crate::text::{NoMemory, Text};
+use std::alloc::Global;
 use thiserror::Error;
 
 /// A universal actor name, `uan://host:port/path`.
@@ -47,4 +51,77 @@ pub enum NameFault {
     Path,
     #[error("no memory")]
     Memory,
+}
+
+impl Uan {
+    ghost use Rattle.sal_value.specs.Names.{uan_text};
+
+    /// The canonical text, `uan://host:port/path` with the host in lower case.
+    #[tactic(auto, unfolding(crate::specs::Names::uan_text))]
+    pub fn text(&self, alloc: Global) -> Result<Text, NoMemory>
+        ensures { IfOk result (λ t. t ≡ uan_text self.now) }
+    {
+        let mut text = Text::from_text(alloc, "uan://")?;
+        push_address(alloc, &mut text, self.host.as_str(), self.port)?;
+        text.push_str("/")?;
+        text.push_str(self.path.as_str())?;
+        Ok(text)
+    }
+
+    pub fn clone_in(&self, alloc: Global) -> Result<Uan, NoMemory>
+        ensures { IfOk result (λ u. u ≡ self.now) }
+    {
+        Ok(Uan {
+            host: self.host.clone_in(alloc)?,
+            port: self.port,
+            path: self.path.clone_in(alloc)?,
+        })
+    }
+}
+
+impl Ual {
+    ghost use Rattle.sal_value.specs.Names.{ual_text};
+
+    /// The canonical text, `rmsp://host:port/` with the host in lower case.
+    #[tactic(auto, unfolding(crate::specs::Names::ual_text))]
+    pub fn text(&self, alloc: Global) -> Result<Text, NoMemory>
+        ensures { IfOk result (λ t. t ≡ ual_text self.now) }
+    {
+        let mut text = Text::from_text(alloc, "rmsp://")?;
+        push_address(alloc, &mut text, self.host.as_str(), self.port)?;
+        text.push_str("/")?;
+        Ok(text)
+    }
+
+    pub fn clone_in(&self, alloc: Global) -> Result<Ual, NoMemory>
+        ensures { IfOk result (λ l. l ≡ self.now) }
+    {
+        Ok(Ual {
+            host: self.host.clone_in(alloc)?,
+            port: self.port,
+        })
+    }
+}
+
+impl Authority {
+    pub fn clone_in(&self, alloc: Global) -> Result<Authority, NoMemory>
+        ensures { IfOk result (λ a. a ≡ self.now) }
+    {
+        Ok(Authority {
+            host: self.host.clone_in(alloc)?,
+            port: self.port,
+        })
+    }
+}
+
+impl Name {
+    pub fn clone_in(&self, alloc: Global) -> Result<Name, NoMemory>
+        ensures { IfOk result (λ n. n ≡ self.now) }
+    {
+        match self {
+            Name::Uan(uan) => Ok(Name::Uan(uan.clone_in(alloc)?)),
+            Name::Anon(theatre, number) => Ok(Name::Anon(*theatre, *number)),
+            Name::Outside(number) => Ok(Name::Outside(*number)),
+        }
+    }
 }
