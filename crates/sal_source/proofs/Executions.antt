@@ -1,5 +1,5 @@
 -- The equations of `exec` and `stage`, one for each form.
-use Rattle.std.proofs.Common.{◌≡◌, ℕ, ◌+◌, ◌<◌, List, [], ◌∷◌, length, map, get_or, drop, drop-cons, length-drop, suc, add-one, Option, Some, None, Ok, refl, sym, ap, ◌∙◌, arith}
+use Rattle.std.proofs.Common.{◌≡◌, ℕ, ◌+◌, ◌<◌, List, [], ◌∷◌, length, map, get_or, drop, drop-cons, length-drop, zero, suc, add-one, Option, Some, None, Ok, refl, sym, ap, ◌∙◌, arith}
 use Rattle.sal_ast.specs.declared.program.Ident.{Ident}
 use Rattle.sal_ast.specs.declared.expression.Expr.{Expr}
 use Rattle.sal_ast.specs.declared.statement.Declare.{Declare}
@@ -17,7 +17,8 @@ use Rattle.sal_source.specs.declared.state.State.{State}
 use Rattle.sal_source.specs.declared.state.End.{End}
 use Rattle.sal_source.specs.declared.state.End.TheVariants as end
 use Rattle.sal_source.specs.Evaluation.{Reads, Eval, ◌>>=◌, ◌>>◌}
-use Rattle.sal_source.specs.Handler.{Run, StageRun, stage_step, stmt_step, chain_step, exec, stage, message, chain, end_of, sequence}
+use Rattle.sal_source.specs.Reading.{end_for}
+use Rattle.sal_source.specs.Handler.{Run, StageRun, stage_step, stmt_step, chain_step, exec, stage, message, ended, chain, end_of, sequence}
 
 pub exec-Empty : (at : ℕ) (r : Reads) (s : State) → exec (t.Empty at) r s ≡ Ok (tt, s)
 unfolding exec stage
@@ -59,16 +60,12 @@ pub exec-Token : (at : ℕ) (name : Ident) (c : Chain) (r : Reads) (s : State) �
 unfolding exec stage
 exec-Token at name c r s = ap (λ d. exec d r s) (sym (t.rolls-Token at name c)) ∙ ap (λ f. f r s) (fold-roll-Stmt StageRun Run (List StageRun) stage_step stmt_step chain_step (Stmt-F.Token at name c))
 
-pub exec-ChainSome : (c : Chain) (at : ℕ) (r : Reads) (s : State) → exec (t.Chain c (Some at)) r s ≡ Ok (tt, s)
+pub exec-Chain : (c : Chain) (passed : Option ℕ) (r : Reads) (s : State) → exec (t.Chain c passed) r s ≡ ended passed (map stage c.stages) r s
 unfolding exec stage
-exec-ChainSome c at r s = ap (λ d. exec d r s) (sym (t.rolls-Chain c (Some at))) ∙ ap (λ f. f r s) (fold-roll-Stmt StageRun Run (List StageRun) stage_step stmt_step chain_step (Stmt-F.Chain c (Some at)))
-
-pub exec-ChainNone : (c : Chain) (r : Reads) (s : State) → exec (t.Chain c None) r s ≡ chain (map stage c.stages) r None end.Nobody s
-unfolding exec stage
-exec-ChainNone c r s =
-    ap (λ d. exec d r s) (sym (t.rolls-Chain c None))
-    ∙ ap (λ f. f r s) (fold-roll-Stmt StageRun Run (List StageRun) stage_step stmt_step chain_step (Stmt-F.Chain c None))
-    ∙ ap (λ l. chain l r None end.Nobody s) (fold_out-Chain StageRun Run (List StageRun) stage_step stmt_step chain_step c)
+exec-Chain c passed r s =
+    ap (λ d. exec d r s) (sym (t.rolls-Chain c passed))
+    ∙ ap (λ f. f r s) (fold-roll-Stmt StageRun Run (List StageRun) stage_step stmt_step chain_step (Stmt-F.Chain c passed))
+    ∙ ap (λ l. ended passed l r s) (fold_out-Chain StageRun Run (List StageRun) stage_step stmt_step chain_step c)
 
 pub stage-Message : (m : Send) (r : Reads) (before : Option ℕ) (last : End) (s : State) → stage (g.Message m) r before last s ≡ message m r before last s
 unfolding exec stage
@@ -78,4 +75,23 @@ pub stage-Join : (at : ℕ) (body : List Stmt) (r : Reads) (before : Option ℕ)
 unfolding exec stage
 stage-Join at body r before last s = ap (λ d. stage d r before last s) (sym (g.rolls-Join at body)) ∙ ap (λ f. f r before last s) (fold-roll-Stage StageRun Run (List StageRun) stage_step stmt_step chain_step (Stage-F.Join at body))
 
-pub ruleset executions = (exec-Empty, exec-Block, exec-Declare, exec-Assign, exec-IfNone, exec-IfSome, exec-While, exec-For, exec-Return, exec-Token, exec-ChainSome, exec-ChainNone, stage-Message, stage-Join)
+end_is : (list : List Stage) (left : ℕ) (last : End) → left ≡ length list → end_of (map stage list) last ≡ end_for left last
+end_is [] left last e = rw e refl
+end_is (x ∷ list) left last e = rw e refl
+
+-- the next stage of a chain
+pub chain_at : (list : List Stage) (i left : ℕ) (o : Stage) (r : Reads) (before : Option ℕ) (last : End) (s : State) → i < length list → o ≡ get_or list i o → left + (i + 1) ≡ length list →
+    chain (map stage (drop i list)) r before last s ≡ (stage o r before (end_for left last) >>= (λ n. chain (map stage (drop (i + 1) list)) r (Some n) last)) s
+chain_at list i left o r before last s h e k =
+    ap (λ l. chain (map stage l) r before last s) (drop-cons list i o h ∙ ap (λ x. x ∷ drop (suc i) list) (sym e))
+    ∙ ap (λ n. chain (stage o ∷ map stage (drop n list)) r before last s) (sym (add-one i))
+    ∙ ap (λ w. (stage o r before w >>= (λ n. chain (map stage (drop (i + 1) list)) r (Some n) last)) s) (end_is (drop (i + 1) list) left last (omega (arith, length-drop (i + 1) list)))
+
+-- the next statement of a block
+pub block_at : (list : List Stmt) (i : ℕ) (o : Stmt) (r : Reads) (s : State) → i < length list → o ≡ get_or list i o →
+    sequence (map exec (drop i list)) r s ≡ (exec o r >> sequence (map exec (drop (i + 1) list)) r) s
+block_at list i o r s h e =
+    ap (λ l. sequence (map exec l) r s) (drop-cons list i o h ∙ ap (λ x. x ∷ drop (suc i) list) (sym e))
+    ∙ ap (λ n. sequence (exec o ∷ map exec (drop n list)) r s) (sym (add-one i))
+
+pub ruleset executions = (exec-Empty, exec-Block, exec-Declare, exec-Assign, exec-IfNone, exec-IfSome, exec-While, exec-For, exec-Return, exec-Token, exec-Chain, stage-Message, stage-Join)

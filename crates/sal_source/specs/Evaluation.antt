@@ -30,8 +30,8 @@ p >> q = p >>= (λ _. q)
 abbrev pub pure : {A : Type 0} → A → Eval A
 pure a = λ s. Ok (a, s)
 
-abbrev pub trap : {A : Type 0} → Trap → Eval A
-trap k = λ s. Err k
+abbrev pub lift : {A : Type 0} → Checked A → Eval A
+lift outcome = λ s. and_then outcome (λ a. Ok (a, s))
 
 -- what the handler of this actor reads
 pub record Reads : Type 0 where

@@ -40,7 +40,7 @@ use Rattle.sal_source.specs.declared.state.End.{End}
 use Rattle.sal_source.specs.declared.state.End.TheVariants as end
 use Rattle.sal_source.specs.declared.state.Outcome.{Outcome}
 use Rattle.sal_source.specs.declared.state.Outcome.TheVariants as outcome
-use Rattle.sal_source.specs.Evaluation.{Checked, and_then, Eval, ◌>>=◌, ◌>>◌, pure, trap, Reads, next_number, sent}
+use Rattle.sal_source.specs.Evaluation.{Checked, and_then, Eval, ◌>>=◌, ◌>>◌, pure, lift, Reads, next_number, sent}
 
 -- ---- expressions
 
@@ -48,8 +48,11 @@ abbrev pub Mean : Type 0
 Mean = Eval Value
 
 -- a text of more than 4,096 bytes is no value
+abbrev pub literal_value : List ℕ → Checked Value
+literal_value text = if nat_lt 4096 (length text) then Err TooLarge else Ok (Str text)
+
 abbrev pub literal : List ℕ → Mean
-literal text = if nat_le (length text) 4096 then pure (Str text) else trap TooLarge
+literal text = lift (literal_value text)
 
 abbrev pub expr_step : Expr-F Mean (Unit {0}) (Unit {0}) (Unit {0}) → Mean
 expr_step (Expr-F.Str text at) = literal text
@@ -148,8 +151,13 @@ abbrev pub stage_step : Stage-F StageRun Run (List StageRun) → StageRun
 stage_step (Stage-F.Message m) = message m
 stage_step (Stage-F.Join at body) = λ r before end. pure 0
 
+-- a chain without `@ currentContinuation`
+abbrev pub ended : Option ℕ → List StageRun → Run
+ended None stages r = chain stages r None end.Nobody
+ended (Some at) stages r = pure tt
+
 abbrev pub stmt_step : Stmt-F StageRun Run (List StageRun) → Run
-stmt_step (Stmt-F.Chain stages None) = λ r. chain stages r None end.Nobody
+stmt_step (Stmt-F.Chain stages passed) = ended passed stages
 stmt_step _ = λ r. pure tt
 
 abbrev pub chain_step : Chain-F StageRun Run (List StageRun) → List StageRun
@@ -184,20 +192,17 @@ body_in handler b = slice_get (handlers b) handler
 abbrev pub body_at : Program → ℕ → ℕ → Option (List Stmt)
 body_at p behavior handler = option_and_then (body_in handler) (slice_get p.behaviors behavior)
 
--- what a handler is called with; `fresh` are the names that new actors take
+-- whose handler it is, with the actor's fields and next number
 pub record Call : Type 0 where
   pub me : Name
   pub behavior : ℕ
   pub fields : List Value
   pub handler : ℕ
-  pub args : List Value
-  pub reply : Reply
   pub serial : ℕ
-  pub fresh : List Name
 
-abbrev pub effects : Call → State → Effects
-effects c s = record {
-  fields = c.fields;
+abbrev pub effects : List Value → State → Effects
+effects fields s = record {
+  fields = fields;
   answer = answer.Value Null;
   messages = s.messages;
   joins = [];
@@ -214,8 +219,8 @@ abbrev pub begun : Call → State
 begun c = record { serial = c.serial; messages = [] }
 
 abbrev pub run_body : Option (List Stmt) → Call → Checked Effects
-run_body None c = Ok (effects c (begun c))
-run_body (Some body) c = and_then (block body (reads c) (begun c)) (λ r. Ok (effects c r.1))
+run_body None c = Ok (effects c.fields (begun c))
+run_body (Some body) c = and_then (block body (reads c) (begun c)) (λ r. Ok (effects c.fields r.1))
 
 -- fewer than 4,096 numbers are left
 abbrev pub run : Program → Call → Checked Effects
@@ -252,9 +257,10 @@ starts (member.Handler None name params body) = Some (is_act name.text params)
 starts (member.Handler (Some result) name params body) = Some false
 starts _ = None
 
+-- numbers of behaviours and handlers are below 65,535, which stands for the output
 abbrev pub first_true : ℕ → List Bool → Option ℕ
 first_true n [] = None
-first_true n (b ∷ bs) = if b then Some n else first_true (n + 1) bs
+first_true n (b ∷ bs) = if nat_lt n 65535 then (if b then Some n else first_true (n + 1) bs) else None
 
 -- the number of a behaviour's first handler `void act(String[] x)`
 abbrev pub act_of : Behavior → Option ℕ
@@ -266,7 +272,7 @@ start_at n None later = later
 
 abbrev pub start_from : ℕ → List Behavior → Option (ℕ × ℕ)
 start_from n [] = None
-start_from n (b ∷ bs) = start_at n (act_of b) (start_from (n + 1) bs)
+start_from n (b ∷ bs) = if nat_lt n 65535 then start_at n (act_of b) (start_from (n + 1) bs) else None
 
 -- the behaviour and the handler that a program starts with
 unfoldable pub start_of : Program → Option (ℕ × ℕ)

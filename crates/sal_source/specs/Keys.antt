@@ -1,15 +1,12 @@
 -- Names and messages as keys of tables.
-use Rattle.std.specs.Prelude.{ℕ, suc, List, [], ◌∷◌, ◌++◌, map}
+use Rattle.std.specs.Prelude.{ℕ, List, ◌∷◌}
 use Rattle.sal_value.specs.declared.name.Name.{Name}
-use Rattle.sal_value.specs.declared.name.Name.TheVariants.{Uan, Anon, Outside}
+use Rattle.sal_value.specs.Order.{key}
 use Rattle.sal_mail.specs.declared.message.Message.{Message}
 use Rattle.sal_source.specs.Table.{Words}
 
--- numbers that tell a name
 abbrev pub name_key : Name → Words
-name_key (Anon place number) = 0 ∷ place ∷ number ∷ []
-name_key (Outside number) = 1 ∷ number ∷ []
-name_key (Uan u) = 2 ∷ u.port ∷ (map suc u.host ++ 0 ∷ u.path)
+name_key = key
 
 -- a message is told by its number and its maker
 abbrev pub made_key : Name → ℕ → Words

@@ -7,3 +7,4 @@ pub mod Give
 pub mod Step
 pub mod Run
 pub mod Prints
+pub mod Reading

@@ -51,25 +51,8 @@ add_output text c = record c { output = c.output ++ text ∷ [] }
 
 -- ---- a handler
 
-abbrev pub known_value : Piece → Value
-known_value (Known v) = v
-known_value _ = Null
-
-abbrev pub call_of : Message → Actor → ℕ → List Name → Call
-call_of m a next fresh = record {
-  me = a.name;
-  behavior = a.behavior;
-  fields = a.fields;
-  handler = m.handler;
-  args = values m.args;
-  reply = m.reply;
-  serial = next;
-  fresh = fresh;
-}
-  where
-    values : List Piece → List Value
-    values [] = []
-    values (p ∷ ps) = known_value p ∷ values ps
+abbrev pub call_of : Message → Actor → ℕ → Call
+call_of m a next = record { me = a.name; behavior = a.behavior; fields = a.fields; handler = m.handler; serial = next }
 
 -- fields, next number and messages of the effects
 abbrev pub installed : Effects → Actor → Configuration → Configuration
@@ -85,21 +68,21 @@ after_outcome (outcome.Done e) m a c = answered e.answer m (installed e a c)
 after_outcome (outcome.Trap k) m a c = add_fault (Trapped k) m c
 
 -- a message whose behaviour isn't the actor's meets no handler
-abbrev pub handled : Program → List Name → Message → Actor × ℕ → Configuration → Configuration
-handled p fresh m a c =
-    if nat_eq m.behavior a.0.behavior then after_outcome (handle p (call_of m a.0 a.1 fresh)) m a.0 (drop_message m c)
+abbrev pub handled : Program → Message → Actor × ℕ → Configuration → Configuration
+handled p m a c =
+    if nat_eq m.behavior a.0.behavior then after_outcome (handle p (call_of m a.0 a.1)) m a.0 (drop_message m c)
     else add_fault NoHandler m (drop_message m c)
 
-abbrev pub handled_by : Program → List Name → Message → Option (Actor × ℕ) → Configuration → Option Configuration
-handled_by p fresh m None c = None
-handled_by p fresh m (Some a) c = Some (handled p fresh m a c)
+abbrev pub handled_by : Program → Message → Option (Actor × ℕ) → Configuration → Option Configuration
+handled_by p m None c = None
+handled_by p m (Some a) c = Some (handled p m a c)
 
 abbrev pub actor_at : Target → Configuration → Option (Actor × ℕ)
 actor_at (target.Actor name) c = fm.get c.actors (name_key name)
 actor_at target.Output c = None
 
-abbrev pub handle_message : Program → List Name → Message → Configuration → Option Configuration
-handle_message p fresh m c = handled_by p fresh m (actor_at m.target c) c
+abbrev pub handle_message : Program → Message → Configuration → Option Configuration
+handle_message p m c = handled_by p m (actor_at m.target c) c
 
 -- ---- a print
 
@@ -138,7 +121,7 @@ pending maker serial c = fm.get c.messages (made_key maker serial)
 
 -- the configuration after a step, where the step is possible; no handler makes an actor yet
 unfoldable pub step : Program → Configuration → Step → Option Configuration
-step p c (Handle maker serial []) = ready_only (pending maker serial c) (λ m. handle_message p [] m c)
+step p c (Handle maker serial []) = ready_only (pending maker serial c) (λ m. handle_message p m c)
 step p c (Handle maker serial (name ∷ names)) = None
 step p c (Print maker serial) = ready_only (pending maker serial c) (λ m. print_message m c)
 

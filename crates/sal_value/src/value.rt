@@ -1,6 +1,9 @@
+ghost use Rattle.std.specs.Prelude.{◌≡◌, IfOk};
+
 use crate::list::List;
 use crate::name::Name;
-use crate::text::Text;
+use crate::text::{NoMemory, Text};
+use std::alloc::Global;
 use thiserror::Error;
 
 /// What an array's innermost elements are, or what a value is that is no array.
@@ -43,4 +46,25 @@ pub enum DecodeFault {
     Bad(usize),
     #[error("no memory")]
     Memory,
+}
+
+impl Value {
+    pub fn clone_in(&self, alloc: Global) -> Result<Value, NoMemory>
+        ensures { IfOk result (λ value. value ≡ self.now) }
+    {
+        match self {
+            Value::Int(number) => Ok(Value::Int(*number)),
+            Value::Bool(truth) => Ok(Value::Bool(*truth)),
+            Value::Str(text) => Ok(Value::Str(text.clone_in(alloc)?)),
+            Value::Array(items) => {
+                let mut copies = List::new(alloc);
+                for item in items.as_slice() {
+                    copies.push(item.clone_in(alloc)?)?;
+                }
+                Ok(Value::Array(copies))
+            }
+            Value::Ref(name) => Ok(Value::Ref(name.clone_in(alloc)?)),
+            Value::Null => Ok(Value::Null),
+        }
+    }
 }
