@@ -7,4 +7,5 @@ pub mod Give
 pub mod Step
 pub mod Run
 pub mod Prints
+pub mod Listed
 pub mod Reading

@@ -1,0 +1,24 @@
+-- How lists stand for tables: what the code that keeps a configuration finds in its lists.
+use Rattle.std.specs.Prelude.{◌≡◌, ℕ, zero, suc, true, false, cond, List, [], ◌∷◌, Option, Some, None}
+use Rattle.sal_source.specs.Table.{Words, words_eq}
+
+-- the first item at a key
+abbrev pub found : {X : Type 0} → (X → Words) → Words → List X → Option X
+found key q [] = None
+found key q (x ∷ xs) = cond (words_eq q (key x)) (Some x) (found key q xs)
+
+-- at this place stands this item, the first one at the key
+abbrev pub IsFirst : {X : Type 0} → (X → Words) → Words → List X → ℕ → X → Type 0
+IsFirst key q [] i y = ⊥
+IsFirst key q (x ∷ xs) zero y = (words_eq q (key x) ≡ true) × (x ≡ y)
+IsFirst key q (x ∷ xs) (suc i) y = (words_eq q (key x) ≡ false) × IsFirst key q xs i y
+
+-- the place of the first item at the key, or none
+abbrev pub Finds : {X : Type 0} → (X → Words) → Words → List X → Option ℕ → Type 0
+Finds key q xs None = found key q xs ≡ None
+Finds {X} key q xs (Some i) = (y : X) × IsFirst key q xs i y
+
+-- no two items have one key
+abbrev pub AreDistinct : {X : Type 0} → (X → Words) → List X → Type 0
+AreDistinct key [] = Unit {0}
+AreDistinct key (x ∷ xs) = (found key (key x) xs ≡ None) × AreDistinct key xs
