@@ -1,5 +1,5 @@
 -- The order of names.
-use Rattle.std.specs.Prelude.{ℕ, suc, List, [], ◌∷◌, ◌++◌, map}
+use Rattle.std.specs.Prelude.{◌≡◌, ℕ, suc, List, [], ◌∷◌, ◌++◌, map}
 use Rattle.sal_value.specs.declared.name.Uan.{Uan}
 use Rattle.sal_value.specs.declared.name.Name.{Name}
 use Rattle.sal_value.specs.declared.name.Name.TheVariants as name
@@ -16,3 +16,7 @@ unfoldable pub key : Name → List ℕ
 key (name.Anon theatre number) = 0 ∷ theatre ∷ number ∷ []
 key (name.Outside number) = 1 ∷ number ∷ []
 key (name.Uan u) = 2 ∷ (closed (uan_text u) ++ (closed u.host ++ u.port ∷ []))
+
+-- equal keys are equal names
+abbrev pub KeysTellNames : Type 0
+KeysTellNames = (a b : Name) → key a ≡ key b → a ≡ b

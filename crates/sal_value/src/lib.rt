@@ -3,12 +3,15 @@
 
 mod address;
 mod boxed;
+mod laws;
 mod list;
 mod name;
+mod order;
 mod text;
 mod value;
 
 pub use boxed::Boxed;
+pub use laws::keys_tell_names;
 pub use list::List;
 pub use name::{Authority, Name, NameFault, Ual, Uan};
 pub use text::{NoMemory, Text};

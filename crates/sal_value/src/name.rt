@@ -28,7 +28,7 @@ pub struct Authority {
 }
 
 /// Whose message it is, or whom it goes to.
-#[derive(Debug, Drop, PartialEq, Eq)]
+#[derive(Debug, Drop)]
 pub enum Name {
     /// An actor with a universal name.
     Uan(Uan),
