@@ -1,3 +1,6 @@
 pub mod Evaluations
 pub mod Executions
+pub mod Kept
+pub mod Played
+pub mod Runs
 pub mod Tables

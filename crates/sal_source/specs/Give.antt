@@ -14,9 +14,12 @@ use Rattle.sal_source.specs.Configuration.{Configuration}
 abbrev pub resolve : Name → ℕ → Value → Message → Message
 resolve owner number value m = cond (words_eq (name_key owner) (name_key m.maker)) (told number value m) m
 
+abbrev pub resolved : Name → ℕ → Value → Configuration → Configuration
+resolved owner number value c = record c { messages = table_map (resolve owner number value) c.messages }
+
 -- the configuration after the reply was given (no handler opens a join yet)
 abbrev pub give : Reply → Value → Configuration → Configuration
 give Nobody value c = c
-give (Tok owner number) value c = record c { messages = table_map (resolve owner number value) c.messages }
+give (Tok owner number) value c = resolved owner number value c
 give (Place owner join place) value c = c
 give (Outside number) value c = record c { answers = c.answers ++ (number, value) ∷ [] }

@@ -8,4 +8,6 @@ pub mod Step
 pub mod Run
 pub mod Prints
 pub mod Listed
+pub mod Changes
+pub mod Playing
 pub mod Reading

@@ -1,6 +1,7 @@
 -- How lists stand for tables: what the code that keeps a configuration finds in its lists.
-use Rattle.std.specs.Prelude.{◌≡◌, ℕ, zero, suc, true, false, cond, List, [], ◌∷◌, Option, Some, None}
-use Rattle.sal_source.specs.Table.{Words, words_eq}
+use Rattle.std.specs.Prelude.{◌≡◌, ℕ, zero, suc, true, false, cond, map, List, [], ◌∷◌, Option, Some, None, T}
+use Rattle.std.specs.FinMap.Entries.{is_sorted}
+use Rattle.sal_source.specs.Table.{Words, words_cmp, words_eq}
 
 -- the first item at a key
 abbrev pub found : {X : Type 0} → (X → Words) → Words → List X → Option X
@@ -22,3 +23,7 @@ Finds {X} key q xs (Some i) = (y : X) × IsFirst key q xs i y
 abbrev pub AreDistinct : {X : Type 0} → (X → Words) → List X → Type 0
 AreDistinct key [] = Unit {0}
 AreDistinct key (x ∷ xs) = (found key (key x) xs ≡ None) × AreDistinct key xs
+
+-- the items stand in the order of their keys
+abbrev pub IsSorted : {X : Type 0} → (X → Words) → List X → Type 0
+IsSorted key xs = T (is_sorted words_cmp (map (λ x. (key x, x)) xs))

@@ -69,9 +69,7 @@ after_outcome (outcome.Trap k) m a c = add_fault (Trapped k) m c
 
 -- a message whose behaviour isn't the actor's meets no handler
 abbrev pub handled : Program → Message → Actor × ℕ → Configuration → Configuration
-handled p m a c =
-    if nat_eq m.behavior a.0.behavior then after_outcome (handle p (call_of m a.0 a.1)) m a.0 (drop_message m c)
-    else add_fault NoHandler m (drop_message m c)
+handled p m a c = if nat_eq m.behavior a.0.behavior then after_outcome (handle p (call_of m a.0 a.1)) m a.0 c else add_fault NoHandler m c
 
 abbrev pub handled_by : Program → Message → Option (Actor × ℕ) → Configuration → Option Configuration
 handled_by p m None c = None
@@ -103,7 +101,7 @@ abbrev pub printed : Message → List ℕ
 printed m = if nat_eq m.handler 1 then argument_text m.args ++ 10 ∷ [] else argument_text m.args
 
 abbrev pub print_to : Target → Message → Configuration → Option Configuration
-print_to target.Output m c = Some (give m.reply Null (add_output (printed m) (drop_message m c)))
+print_to target.Output m c = Some (give m.reply Null (add_output (printed m) c))
 print_to (target.Actor name) m c = None
 
 abbrev pub print_message : Message → Configuration → Option Configuration
@@ -119,11 +117,19 @@ ready_only (Some m) f = if is_ready m then f m else None
 abbrev pub pending : Name → ℕ → Configuration → Option Message
 pending maker serial c = fm.get c.messages (made_key maker serial)
 
+-- the ready message goes, and is handled
+abbrev pub handle_step : Program → Name → ℕ → Configuration → Option Configuration
+handle_step p maker serial c = ready_only (pending maker serial c) (λ m. handle_message p m (drop_message m c))
+
+-- the ready message goes, and is printed
+abbrev pub print_step : Name → ℕ → Configuration → Option Configuration
+print_step maker serial c = ready_only (pending maker serial c) (λ m. print_message m (drop_message m c))
+
 -- the configuration after a step, where the step is possible; no handler makes an actor yet
 unfoldable pub step : Program → Configuration → Step → Option Configuration
-step p c (Handle maker serial []) = ready_only (pending maker serial c) (λ m. handle_message p m c)
+step p c (Handle maker serial []) = handle_step p maker serial c
 step p c (Handle maker serial (name ∷ names)) = None
-step p c (Print maker serial) = ready_only (pending maker serial c) (λ m. print_message m c)
+step p c (Print maker serial) = print_step maker serial c
 
 -- no step is possible
 abbrev pub IsFinal : Program → Configuration → Type 0

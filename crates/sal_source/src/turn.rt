@@ -27,7 +27,8 @@ pub struct Turn<'a> {
     pub serial: u64,
 }
 
-fn copied(alloc: Global, values: &[Value]) -> Result<Values, NoMemory>
+/// A copy of the values.
+pub fn copied(alloc: Global, values: &[Value]) -> Result<Values, NoMemory>
     ensures { IfOk result (λ copies. copies ≡ values.now) }
 {
     let mut copies = List::new(alloc);

@@ -1,0 +1,272 @@
+-- The run of a chain of prints.
+use Rattle.std.proofs.Common.{◌≡◌, ℕ, zero, suc, ◌+◌, ◌<◌, ◌≤◌, Bool, true, false, List, [], ◌∷◌, ◌++◌, length, map, filter, not, cond, ◌&&◌, nat_eq, nat_lt, Option, Some, None, Ok, Err, refl, ap, sym, ◌∙◌, subst, arith, append_assoc, length-append, codes, if◌then◌else◌}
+use Rattle.std.proofs.lemmas.List.{append-nil}
+use Rattle.std.proofs.lemmas.Bool.{lt-ltb, le-ltb, eq-eqb, ne_eqb}
+use Rattle.std.specs.Prelude.{option_and_then}
+use Rattle.std.specs.List.{list_all}
+use Rattle.std.specs.FinMap as fm
+use Rattle.std.specs.FinSet as fs
+use Rattle.std.specs.Str.{bytes_eq}
+use Rattle.sal_value.specs.declared.name.Name.{Name}
+use Rattle.sal_value.specs.declared.name.Name.TheVariants.{Anon, Outside}
+use Rattle.sal_value.specs.declared.value.Value.{Value}
+use Rattle.sal_value.specs.declared.value.Value.TheVariants.{Str, Null}
+use Rattle.sal_mail.specs.declared.message.Message.{Message}
+use Rattle.sal_mail.specs.declared.message.Piece.{Piece}
+use Rattle.sal_mail.specs.declared.message.Piece.TheVariants.{Known}
+use Rattle.sal_mail.specs.declared.message.Target.TheVariants as target
+use Rattle.sal_mail.specs.declared.effects.Actor.{Actor}
+use Rattle.sal_mail.specs.Message.{known, told, is_known, is_other}
+use Rattle.sal_source.specs.declared.state.State.{State}
+use Rattle.sal_source.specs.declared.state.End.{End}
+use Rattle.sal_source.specs.declared.state.End.TheVariants as end
+use Rattle.sal_source.specs.declared.state.Setup.{Setup}
+use Rattle.sal_source.specs.declared.state.Step.{Step}
+use Rattle.sal_source.specs.declared.state.Step.TheVariants as step
+use Rattle.sal_source.specs.Table.{Words, Table, words_eq, write, table_map, table_of}
+use Rattle.sal_source.specs.Keys.{name_key, made_key, message_key}
+use Rattle.sal_source.specs.Listed.{found}
+use Rattle.sal_mail.specs.declared.effects.Effects.{Effects}
+use Rattle.sal_source.specs.declared.state.Outcome.TheVariants as outcome
+use Rattle.sal_source.specs.Evaluation.{Checked, Reads, Eval, ◌>>=◌, pure}
+use Rattle.sal_source.specs.Handler as h
+use Rattle.sal_source.specs.Configuration.{Configuration, actor_key, start_name, start_actor, act_message, first_of}
+use Rattle.sal_source.specs.Give.{resolve, give}
+use Rattle.sal_source.proofs.Played.{ready, met_done}
+use Rattle.sal_source.specs.Step as s
+use Rattle.sal_source.specs.Run.{steps}
+use Rattle.sal_source.specs.Prints.{Print, Outline, argument_of, stage_of, body_of, program_of, string_in, line_of, lines_of, IsShort, AreShort, print_steps, trace, Runs}
+use Rattle.sal_source.proofs.Evaluations.{eval-Str}
+use Rattle.sal_source.proofs.Executions.{exec-Chain, stage-Message}
+use Rattle.sal_source.proofs.Tables.{words_refl, same_words, words_apart, same_table, get-write, get-table_of, table-each}
+use Rattle.sal_source.proofs.Kept.{resolve_keeps}
+
+-- ---- the messages of the chain
+
+known_args : Option (List ℕ × ℕ) → List Piece
+known_args None = []
+known_args (Some text) = Known (Str text.0) ∷ []
+
+abbrev end_after : List Print → End
+end_after [] = end.Nobody
+end_after (p ∷ ps) = end.Token
+
+abbrev sent : Option ℕ → ℕ → Print → End → Message
+sent before number p last = h.print_message start_name p.handler.text (known_args p.text) before last number
+
+abbrev chained : Option ℕ → ℕ → List Print → List Message
+chained before number [] = []
+chained before number (p ∷ ps) = sent before number p (end_after ps) ∷ chained (Some number) (number + 1) ps
+
+abbrev reader : Reads
+reader = record { me = start_name }
+
+-- ---- what the handler does
+
+pieces_are : (text : Option (List ℕ × ℕ)) (before : Option ℕ) (w : State) → IsShort text → h.pieces (argument_of text) before [] w ≡ Ok (known_args text, w)
+unfolding known_args
+pieces_are None before w short = refl
+pieces_are (Some text) before w short =
+    rw (eval-Str text.0 text.1 w, le-ltb 4096 (length text.0) short) refl
+
+abbrev after_one : Option ℕ → Print → End → State → State
+after_one before p last w = record w { serial = w.serial + 1; messages = w.messages ++ sent before w.serial p last ∷ [] }
+
+message_is : (p : Print) (before : Option ℕ) (last : End) (w : State) → IsShort p.text → length w.messages < 1024 → w.serial < 18446744073709551615 →
+    h.stage (stage_of p) reader before last w ≡ Ok (w.serial, after_one before p last w)
+unfolding h.message
+message_is p before last w short few low =
+    stage-Message _ reader before last w
+    ∙ rw (pieces_are p.text before w short, lt-ltb (length w.messages) 1024 few, lt-ltb w.serial 18446744073709551615 low) refl
+
+end_is : (ps : List Print) → h.end_of (map h.stage (map stage_of ps)) end.Nobody ≡ end_after ps
+end_is [] = refl
+end_is (p ∷ ps) = refl
+
+abbrev after_all : Option ℕ → List Print → State → State
+after_all before ps w = record { serial = w.serial + length ps; messages = w.messages ++ chained before w.serial ps }
+
+abbrev state : ℕ → List Message → State
+state serial messages = record { serial = serial; messages = messages }
+
+states : (a b : ℕ) (xs ys : List Message) → a ≡ b → xs ≡ ys → ◌≡◌ {A = Checked (Unit {0} × State)} (Ok (tt, state a xs)) (Ok (tt, state b ys))
+states a b xs ys e f = cc
+
+chain_is : (ps : List Print) (before : Option ℕ) (w : State) → AreShort ps → length w.messages + length ps ≤ 1024 → w.serial + length ps ≤ 2048 →
+    h.chain (map h.stage (map stage_of ps)) reader before end.Nobody w ≡ Ok (tt, after_all before ps w)
+chain_is [] before w short few low = states w.serial (w.serial + 0) w.messages (w.messages ++ []) (omega arith) (sym (append-nil w.messages))
+chain_is (p ∷ ps) before w short few low =
+    let m : Message = sent before w.serial p (end_after ps) in
+    let one = message_is p before (end_after ps) w short.0 (omega arith) (omega arith) in
+    let more = chain_is ps (Some w.serial) (after_one before p (end_after ps) w) short.1 (omega (arith, length-append w.messages (m ∷ []))) (omega arith) in
+    rw (end_is ps, one) (more ∙ states ((w.serial + 1) + length ps) (w.serial + length (p ∷ ps)) ((w.messages ++ m ∷ []) ++ chained (Some w.serial) (w.serial + 1) ps) (w.messages ++ (m ∷ chained (Some w.serial) (w.serial + 1) ps)) (omega arith) (append_assoc w.messages (m ∷ []) (chained (Some w.serial) (w.serial + 1) ps)))
+
+-- the body of `act`
+body_is : (ps : List Print) → AreShort ps → length ps ≤ 1024 → h.block (body_of ps) reader (state 0 []) ≡ Ok (tt, state (length ps) (chained None 0 ps))
+body_is [] short few = refl
+body_is (p ∷ ps) short few =
+    let c = chain_is (p ∷ ps) None (state 0 []) short (omega arith) (omega arith) in
+    rw (exec-Chain (record { stages = map stage_of (p ∷ ps) }) None reader (state 0 []), c) (states (0 + length (p ∷ ps)) (length (p ∷ ps)) ([] ++ chained None 0 (p ∷ ps)) (chained None 0 (p ∷ ps)) (omega arith) refl)
+
+-- ---- the start
+
+start_is : (o : Outline) → h.start_of (program_of o) ≡ Some (0, 0)
+unfolding h.start_of
+start_is o = refl
+
+abbrev effects_of : List Print → Effects
+effects_of ps = h.effects [] (state (length ps) (chained None 0 ps))
+
+handle_is : (o : Outline) (m : Message) → m.handler ≡ 0 → AreShort o.prints → length o.prints ≤ 1024 →
+    h.handle (program_of o) (s.call_of m (start_actor 0).0 0) ≡ outcome.Done (effects_of o.prints)
+unfolding h.handle
+handle_is o m e short few = rw (e, body_is o.prints short few) refl
+
+-- ---- tables of one more message
+
+module _ {X : Type 0} (key : X → Words) where
+  get_head : (x : X) (xs : List X) → fm.get (table_of key (x ∷ xs)) (key x) ≡ Some x
+  get_head x xs = get-table_of key (x ∷ xs) (key x) ∙ ap (λ b. cond b (Some x) (found key (key x) xs)) (words_refl (key x))
+
+  drop_head : (x : X) (xs : List X) → found key (key x) xs ≡ None → write (table_of key (x ∷ xs)) (key x) None ≡ table_of key xs
+  drop_head x xs new = same_table _ _ (λ q. get-write (table_of key (x ∷ xs)) (key x) None q ∙ ap (cond (words_eq q (key x)) None) (get-table_of key (x ∷ xs) q) ∙ at q (words_eq q (key x)) refl ∙ sym (get-table_of key xs q))
+    where
+      at : (q : Words) (b : Bool) → words_eq q (key x) ≡ b → cond b None (cond b (Some x) (found key q xs)) ≡ found key q xs
+      at q true e = sym (ap (λ k. found key k xs) (same_words q (key x) e) ∙ new)
+      at q false e = refl
+
+-- ---- `act` is handled
+
+filled : (ms : List Message) (c : Configuration) → c.messages ≡ table_of message_key [] → s.put_messages ms c ≡ record c { messages = table_of message_key ms }
+filled [] c e = ap (λ (t : Table Message). record c { messages = t }) e
+filled (m ∷ ms) c e = ap (s.put_message m) (filled ms c e)
+
+abbrev acted : ℕ → Table (Actor × ℕ)
+acted n = write (table_of actor_key (start_actor 0 ∷ [])) (name_key start_name) (Some ((start_actor 0).0, n))
+
+-- the chain is left from this number on
+abbrev at : ℕ → ℕ → List Print → List (List ℕ) → Configuration
+at n number ps output = record {
+  actors = acted n;
+  messages = table_of message_key (chained None number ps);
+  given = fs.from_list (name_key start_name ∷ []);
+  output = output;
+  faults = [];
+  answers = [];
+}
+
+abbrev begun : List Value → Configuration
+begun words = first_of words (Some (0, 0))
+
+abbrev act : List Value → Message
+act words = act_message words 0 0
+
+acts : (o : Outline) (words : List Value) → AreShort o.prints → length o.prints ≤ 1024 →
+    s.step (program_of o) (begun words) (step.Handle (Outside 0) 0 []) ≡ Some (at (length o.prints) 0 o.prints [])
+unfolding s.step
+acts o words short few =
+    let dropped : Configuration = s.drop_message (act words) (begun words) in
+    ready (s.pending (Outside 0) 0 (begun words)) (act words) (λ m. s.handle_message (program_of o) m (s.drop_message m (begun words))) (get_head message_key (act words) []) refl
+    ∙ met_done (program_of o) (act words) dropped (start_actor 0) (effects_of o.prints) (get_head actor_key (start_actor 0) []) refl (handle_is o (act words) refl short few)
+    ∙ ap (λ c. Some (s.put_actor (start_actor 0).0 (length o.prints) c)) (filled (chained None 0 o.prints) dropped (drop_head message_key (act words) [] refl))
+
+-- ---- a stage is printed
+
+later : (k number : ℕ) (before : Option ℕ) (ps : List Print) → k < number → found message_key (made_key start_name k) (chained before number ps) ≡ None
+later k number before [] lt = refl
+later k number before (p ∷ ps) lt =
+    let apart = words_apart (made_key start_name k) (made_key start_name number) (λ e. differ e) in
+    rw apart (later k (number + 1) (Some number) ps (omega arith))
+  where
+    differ : made_key start_name k ≡ made_key start_name number → ⊥
+    differ e = let f : k ≡ number = cc in absurd (omega arith)
+
+known_stay : (number : ℕ) (text : Option (List ℕ × ℕ)) → map (known number Null) (known_args text) ≡ known_args text
+unfolding known_args
+known_stay number None = refl
+known_stay number (Some text) = refl
+
+stays : (number b k : ℕ) (p : Print) (last : End) → number < b → resolve start_name number Null (sent (Some b) k p last) ≡ sent (Some b) k p last
+stays number b k p last lt = rw (words_refl (name_key start_name), known_stay number p.text, ne_eqb b number (λ e. absurd (omega arith))) refl
+
+stay : (number b k : ℕ) (ps : List Print) → number < b → b < k → map (resolve start_name number Null) (chained (Some b) k ps) ≡ chained (Some b) k ps
+stay number b k [] lt more = refl
+stay number b k (p ∷ ps) lt more = rw (stays number b k p (end_after ps) lt, stay number k (k + 1) ps (omega arith) (omega arith)) refl
+
+-- the next stage waits no more
+released : (number : ℕ) (ps : List Print) → map (resolve start_name number Null) (chained (Some number) (number + 1) ps) ≡ chained None (number + 1) ps
+released number [] = refl
+released number (p ∷ ps) =
+    rw (words_refl (name_key start_name), known_stay number p.text, eq-eqb number number refl, stay number (number + 1) ((number + 1) + 1) ps (omega arith) (omega arith)) refl
+
+args_known : (text : Option (List ℕ × ℕ)) → list_all is_known (known_args text) ≡ true
+unfolding known_args
+args_known None = refl
+args_known (Some text) = refl
+
+text_is : (text : Option (List ℕ × ℕ)) → s.argument_text (known_args text) ≡ string_in text
+unfolding known_args
+text_is None = refl
+text_is (Some text) = refl
+
+printed_is : (p : Print) (before : Option ℕ) (number : ℕ) (last : End) → s.printed (sent before number p last) ≡ line_of p
+printed_is p before number last = rw (text_is p.text) (by_name (bytes_eq p.handler.text (codes "println")))
+  where
+    by_name : (b : Bool) → (if nat_eq (if b then 1 else 0) 1 then string_in p.text ++ 10 ∷ [] else string_in p.text) ≡ (if b then string_in p.text ++ 10 ∷ [] else string_in p.text)
+    by_name true = refl
+    by_name false = refl
+
+-- what is left once the first message was taken out and its text was told
+abbrev told_one : ℕ → ℕ → List Print → List (List ℕ) → Configuration
+told_one n number ps output = record (at n number [] output) { messages = table_of message_key (chained (Some number) (number + 1) ps) }
+
+given_one : (n number : ℕ) (ps : List Print) (output : List (List ℕ)) → give (h.owed (end_after ps) start_name number) Null (told_one n number ps output) ≡ at n (number + 1) ps output
+given_one n number [] output = refl
+given_one n number (p ∷ ps) output =
+    ap (λ (t : Table Message). record (at n number [] output) { messages = t })
+    (sym (table-each message_key (resolve start_name number Null) (resolve_keeps start_name number Null) (chained (Some number) (number + 1) (p ∷ ps))) ∙ ap (table_of message_key) (released number (p ∷ ps)))
+
+prints_one : (o : Outline) (n number : ℕ) (p : Print) (ps : List Print) (output : List (List ℕ)) →
+    s.step (program_of o) (at n number (p ∷ ps) output) (step.Print start_name number) ≡ Some (at n (number + 1) ps (output ++ line_of p ∷ []))
+unfolding s.step
+prints_one o n number p ps output =
+    let m : Message = sent None number p (end_after ps) in
+    let c : Configuration = at n number (p ∷ ps) output in
+    ready (s.pending start_name number c) m (λ m. s.print_message m (s.drop_message m c)) (get_head message_key m (chained (Some number) (number + 1) ps)) (rw (args_known p.text) refl)
+    ∙ ap (λ (t : Table Message). Some (give m.reply Null (record c { messages = t; output = output ++ s.printed m ∷ [] }))) (drop_head message_key m (chained (Some number) (number + 1) ps) (later number (number + 1) (Some number) ps (omega arith)))
+    ∙ ap (λ text. Some (give m.reply Null (told_one n number ps (output ++ text ∷ [])))) (printed_is p None number (end_after ps))
+    ∙ ap (λ d. Some d) (given_one n number ps (output ++ line_of p ∷ []))
+
+prints_all : (o : Outline) (n number : ℕ) (ps : List Print) (output : List (List ℕ)) → steps (program_of o) (at n number ps output) (print_steps number (length ps)) ≡ Some (at n (number + length ps) [] (output ++ lines_of ps))
+unfolding steps
+prints_all o n number [] output = ap (λ x. Some (at n number [] x)) (sym (append-nil output))
+prints_all o n number (p ∷ ps) output =
+    ap (option_and_then (λ d. steps (program_of o) d (print_steps (number + 1) (length ps)))) (prints_one o n number p ps output)
+    ∙ prints_all o n (number + 1) ps (output ++ line_of p ∷ [])
+    ∙ last ((number + 1) + length ps) (number + length (p ∷ ps)) ((output ++ line_of p ∷ []) ++ lines_of ps) (output ++ lines_of (p ∷ ps)) (omega arith) (append_assoc output (line_of p ∷ []) (lines_of ps))
+  where
+    last : (a b : ℕ) (x y : List (List ℕ)) → a ≡ b → x ≡ y → Some (at n a [] x) ≡ Some (at n b [] y)
+    last a b x y e f = ap (λ z. Some (at n a [] z)) f
+
+none_left : (q : Words) → fm.get (table_of message_key []) q ≡ None
+none_left q = get-table_of message_key [] q
+
+no_step : (o : Outline) (n number : ℕ) (output : List (List ℕ)) → s.IsFinal (program_of o) (at n number [] output)
+unfolding s.step
+no_step o n number output (step.Handle maker serial []) = rw (none_left (made_key maker serial)) refl
+no_step o n number output (step.Handle maker serial (name ∷ names)) = refl
+no_step o n number output (step.Print maker serial) = rw (none_left (made_key maker serial)) refl
+
+pub runs : (o : Outline) (setup : Setup) → length o.prints ≤ 1024 → AreShort o.prints → Runs o setup
+unfolding steps
+runs o setup few short = record {
+  end = at (length o.prints) (0 + length o.prints) [] (lines_of o.prints);
+  is_run =
+      ap (λ f. steps (program_of o) (first_of setup.words f) (trace (length o.prints))) (start_is o)
+      ∙ ap (option_and_then (λ d. steps (program_of o) d (print_steps 0 (length o.prints)))) (acts o setup.words short few)
+      ∙ prints_all o (length o.prints) 0 o.prints [];
+  output = refl;
+  faults = refl;
+  answers = refl;
+  final = no_step o (length o.prints) (0 + length o.prints) (lines_of o.prints);
+}
