@@ -1,6 +1,6 @@
 -- How the bytes of a program are cut into tokens. (A part of the lexical rules: no comments, and in
 -- a string no escapes.)
-use Rattle.std.specs.Prelude.{◌≡◌, ℕ, ◌+◌, ◌<◌, ◌≤◌, Bool, true, false, ◌&&◌, ◌||◌, not, nat_eq, nat_le, List, [], ◌∷◌, ◌++◌, length, take, codes, Option, Some, None}
+use Rattle.std.specs.Prelude.{◌≡◌, ℕ, ◌+◌, ◌<◌, ◌≤◌, Bool, true, false, ◌&&◌, ◌||◌, not, cond, nat_eq, nat_le, List, [], ◌∷◌, ◌++◌, length, take, codes, Option, Some, None}
 use Rattle.std.specs.List.{list_any, list_all}
 use Rattle.std.specs.Str.{IsUtf8, bytes_eq}
 
@@ -28,13 +28,16 @@ abbrev pub is_number : List ℕ → Bool
 is_number [] = false
 is_number (c ∷ cs) = list_all is_digit (c ∷ cs)
 
--- behind the first quote of a string: up to its last quote there is no line feed and no other
--- quote, unless a backslash takes it with it
+abbrev pub is_empty : List ℕ → Bool
+is_empty [] = true
+is_empty (c ∷ cs) = false
+
+-- behind the first quote of a string: the next quote that no backslash takes with it is the last
+-- byte, and there is no line feed
 abbrev pub is_closed : Bool → List ℕ → Bool
 is_closed escaped [] = false
 is_closed true (c ∷ cs) = not (nat_eq c 10) && is_closed false cs
-is_closed false (c ∷ []) = nat_eq c 34
-is_closed false (c ∷ d ∷ cs) = not (nat_eq c 34 || nat_eq c 10) && is_closed (nat_eq c 92) (d ∷ cs)
+is_closed false (c ∷ cs) = cond (nat_eq c 34) (is_empty cs) (not (nat_eq c 10) && is_closed (nat_eq c 92) cs)
 
 abbrev pub is_string : List ℕ → Bool
 is_string [] = false

@@ -1,4 +1,6 @@
 //! Runs actor programs.
 #![tactic(auto)]
 
+mod form;
+
 fn main() {}
