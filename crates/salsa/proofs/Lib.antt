@@ -1,3 +1,10 @@
+mod Bodies
 mod Chains
+mod Heads
+mod Names
+mod Pieces
+mod Stages
+mod Strings
 mod Takes
 mod Texts
+mod Whole

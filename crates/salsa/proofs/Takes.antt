@@ -53,14 +53,14 @@ token_no_blank : (c : ℕ) (cs : List ℕ) → is_token (c ∷ cs) ≡ true → 
 token_no_blank c cs h =
     false_from_ne_true (is_blank c)
     (λ b.
-      elim (or_cases (nat_eq c 32 || nat_eq c 9 || nat_eq c 13) (nat_eq c 10) b) [
-        inl x ↦
+    elim (or_cases (nat_eq c 32 || nat_eq c 9 || nat_eq c 13) (nat_eq c 10) b) [
+      | inl x ↦
           elim (or_cases (nat_eq c 32 || nat_eq c 9) (nat_eq c 13) x) [
-            inl y ↦ elim (or_cases (nat_eq c 32) (nat_eq c 9) y) [ inl z ↦ no_token_at c 32 cs refl h z | inr z ↦ no_token_at c 9 cs refl h z ]
-          | inr y ↦ no_token_at c 13 cs refl h y
+            | inl y ↦ elim (or_cases (nat_eq c 32) (nat_eq c 9) y) [ inl z ↦ no_token_at c 32 cs refl h z | inr z ↦ no_token_at c 9 cs refl h z ]
+            | inr y ↦ no_token_at c 13 cs refl h y
           ]
       | inr x ↦ no_token_at c 10 cs refl h x
-      ])
+    ])
 
 -- no blank begins a token
 pub token_first : (bytes rest : List ℕ) → is_token bytes ≡ true → skip_blanks (bytes ++ rest) ≡ bytes ++ rest
@@ -80,10 +80,10 @@ taken : (whole from : ℕ) (token : Token) (blanks text rest : List ℕ) → fro
     StandsAt token.at (from + length blanks) → Takes whole token text rest
 taken whole from token blanks text rest e b s =
     let skipped : skip_blanks text ≡ token.bytes ++ rest =
-      ap skip_blanks b.spelled ∙ (skip_over blanks (token.bytes ++ rest) b.blank ∙ token_first token.bytes rest b.is) in
+    ap skip_blanks b.spelled ∙ (skip_over blanks (token.bytes ++ rest) b.blank ∙ token_first token.bytes rest b.is) in
     let places : from + length blanks ≡ place whole text =
-      at_place whole from (length text) (length blanks) (length token.bytes) (length rest) e (lengths text blanks token.bytes rest b.spelled)
-      ∙ ap (λ n. whole - n) (sym (length-append token.bytes rest) ∙ ap length (sym skipped)) in
+    at_place whole from (length text) (length blanks) (length token.bytes) (length rest) e (lengths text blanks token.bytes rest b.spelled)
+    ∙ ap (λ n. whole - n) (sym (length-append token.bytes rest) ∙ ap length (sym skipped)) in
     record { spelled = skipped; is = b.is; longest = b.longest; stands = subst (λ p. StandsAt token.at p) places s }
 
 pub of_cut : (whole : ℕ) (tokens : List Token) (from : ℕ) (text : List ℕ) → from + length text ≡ whole → Cut tokens from text → Cuts whole tokens text
@@ -105,7 +105,15 @@ to_cut whole (token ∷ tokens) from text e h =
     let b : Begins token.bytes s.blanks text rest = begins whole token text rest s h.1 in
     let l = lengths text s.blanks token.bytes rest b.spelled in
     let places : from + length s.blanks ≡ place whole text =
-      at_place whole from (length text) (length s.blanks) (length token.bytes) (length rest) e l
-      ∙ ap (λ n. whole - n) (sym (length-append token.bytes rest) ∙ ap length (sym h.1.spelled)) in
-    (s.blanks, (rest, (b, subst (λ p. StandsAt token.at p) (sym places) h.1.stands,
-    to_cut whole tokens (from + length s.blanks + length token.bytes) rest (next_from whole from (length text) (length s.blanks) (length token.bytes) (length rest) e l) h.2)))
+    at_place whole from (length text) (length s.blanks) (length token.bytes) (length rest) e l
+    ∙ ap (λ n. whole - n) (sym (length-append token.bytes rest) ∙ ap length (sym h.1.spelled)) in (
+      s.blanks,
+      (
+        rest,
+        (
+          b,
+          subst (λ p. StandsAt token.at p) (sym places) h.1.stands,
+          to_cut whole tokens (from + length s.blanks + length token.bytes) rest (next_from whole from (length text) (length s.blanks) (length token.bytes) (length rest) e l) h.2,
+        ),
+      ),
+    )

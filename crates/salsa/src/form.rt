@@ -7,7 +7,10 @@ ghost use Rattle.salsa.specs.Form.{Read};
 ghost use Rattle.salsa.specs.Reading.{skip_blanks, begins_name_byte, after_sign, after_word, place, word_read, name_length, text_of, first_words, second_words, third_words, last_words, is_reserved, begins_letter, identifier_of, name_read, inside_length, string_read, aim_read, is_print, handler_read, argument_read, stage_read, stages_read, is_end, ends_with, chain_of, body_read, title_read, act_read, sort_read, words_read, head_read, words_param, tree_of, program_read, form_read};
 ghost use Rattle.salsa.specs.Seen.{ident_seen, quote_seen, word_seen, name_seen, string_seen, print_seen, stage_seen, stages_seen, head_seen, headed_seen};
 
-use sal_ast::{Aim, Arg, BaseName, Behavior, Chain, Expr, Ident, Member, Param, Program, Send, Stage, Stmt, TypeName};
+use sal_ast::{
+    Aim, Arg, BaseName, Behavior, Chain, Expr, Ident, Member, Param, Program, Send, Stage, Stmt,
+    TypeName,
+};
 use sal_value::{List, NoMemory, Text};
 use std::alloc::Global;
 use std::str;
@@ -545,4 +548,11 @@ fn read_whole(alloc: Global, text: &[u8]) -> Result<Option<Program>, NoMemory>
         Some(_) => read_program(alloc, text.len(), text),
         None => Ok(None),
     }
+}
+
+/// The program that a text spells, where it is one chain of prints.
+pub fn read_form(alloc: Global, text: &[u8]) -> Result<Option<Program>, NoMemory>
+    ensures { IfOk result (λ program. Read text.now program) }
+{
+    read_whole(alloc, text)
 }
