@@ -1,5 +1,5 @@
 -- Reading what stands before the statements is taking its tokens.
-use Rattle.std.proofs.Common.{◌≡◌, ℕ, Bool, true, false, List, [], ◌∷◌, ◌++◌, codes, Option, Some, None, option_map, option_and_then, refl, ap, sym, ◌∙◌, subst}
+use Rattle.std.proofs.Common.{◌≡◌, ℕ, true, List, [], ◌∷◌, ◌++◌, codes, Some, option_map, option_and_then, refl, ap, ◌∙◌, subst}
 use Rattle.sal_ast.specs.declared.program.Ident.{Ident}
 use Rattle.salsa.specs.Tokens.{Token, is_identifier}
 use Rattle.salsa.specs.Form.{word, word_at, name_of}

@@ -1,15 +1,15 @@
 -- Reading an identifier is taking it.
-use Rattle.std.proofs.Common.{◌≡◌, ℕ, zero, suc, ◌+◌, ◌-◌, ◌<◌, ◌≤◌, Bool, true, false, not, ◌||◌, ◌&&◌, nat_eq, List, [], ◌∷◌, ◌++◌, length, take, drop, get_or, cond, codes, Option, Some, None, option_map, option_and_then, refl, ap, sym, ◌∙◌, subst, arith, nat_le}
+use Rattle.std.proofs.Common.{◌≡◌, ℕ, zero, suc, ◌-◌, ◌<◌, Bool, true, false, not, ◌&&◌, List, [], ◌∷◌, ◌++◌, length, take, drop, get_or, Some, None, option_map, refl, ap, sym, ◌∙◌, subst, arith}
 use Rattle.std.specs.List.{list_all, list_any}
-use Rattle.std.specs.Str.{bytes_eq, IsUtf8, IsAscii}
+use Rattle.std.specs.Str.{bytes_eq}
 use Rattle.std.proofs.Math.Bool.{or_assoc, or-false, and-true}
 use Rattle.std.proofs.Math.Seq.{take-append_seam, drop-append_seam}
-use Rattle.std.proofs.lemmas.Bool.{both_ways, false_from_ne_true, and_parts, and_from, or_left}
+use Rattle.std.proofs.lemmas.Bool.{and_parts, and_from, or_left}
 use Rattle.std.proofs.lemmas.Bool.Decides.{nat_tests}
 use Rattle.std.proofs.lemmas.List.{take-append-drop}
 use Rattle.std.proofs.lemmas.Str.{IsUtf8-from_ascii}
 use Rattle.sal_ast.specs.declared.program.Ident.{Ident}
-use Rattle.salsa.specs.Tokens.{Token, IsLongest, is_token, is_name, is_letter, is_digit, is_name_byte, is_identifier, reserved}
+use Rattle.salsa.specs.Tokens.{is_name, is_letter, is_digit, is_name_byte, is_identifier, reserved}
 use Rattle.salsa.specs.Form.{name_of}
 use Rattle.salsa.specs.Reading.{skip_blanks, begins_name_byte, begins_letter, is_reserved, place, name_length, text_of, identifier_of, ident_at, named, name_read}
 use Rattle.salsa.proofs.Takes.{Takes}

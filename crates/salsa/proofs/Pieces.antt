@@ -1,11 +1,11 @@
 -- Reading a sign or a word is taking it.
-use Rattle.std.proofs.Common.{◌≡◌, ℕ, zero, suc, ◌+◌, ◌-◌, ◌<◌, ◌≤◌, Bool, true, false, not, ◌||◌, ◌&&◌, nat_eq, List, [], ◌∷◌, ◌++◌, length, take, drop, cond, codes, Option, Some, None, option_map, option_and_then, refl, ap, sym, ◌∙◌, subst, arith, eq-eqb, nat_le}
+use Rattle.std.proofs.Common.{◌≡◌, ℕ, zero, suc, Bool, true, false, not, ◌&&◌, nat_eq, List, [], ◌∷◌, ◌++◌, length, take, drop, cond, Option, Some, None, option_map, option_and_then, refl, ap, sym, ◌∙◌, subst, arith, eq-eqb}
 use Rattle.std.specs.List.{list_all, list_any}
 use Rattle.std.specs.Str.{bytes_eq}
 use Rattle.std.specs.Cmp.Lexicographic.{pointwise}
-use Rattle.std.proofs.lemmas.Bool.{both_ways, false_from_ne_true, and_parts, and_from, and_left, and_right, or_from, or_left, or_cases, not-true, eqb-true, leb-true, leb-false}
+use Rattle.std.proofs.lemmas.Bool.{both_ways, false_from_ne_true, and_parts, and_from, and_left, and_right, or_from, or_left, not-true, eqb-true}
 use Rattle.std.proofs.lemmas.Bool.Decides.{nat_tests}
-use Rattle.salsa.specs.Tokens.{Token, StandsAt, IsLongest, is_token, is_name, is_number, is_string, is_sign, signs, is_letter, is_digit, is_name_byte}
+use Rattle.salsa.specs.Tokens.{Token, IsLongest, is_token, is_name, signs, is_letter, is_digit, is_name_byte}
 use Rattle.salsa.specs.Form.{word, word_at}
 use Rattle.salsa.specs.Reading.{skip_blanks, stripped, after_sign, after_word, if_ended, begins_name_byte, place, word_read, behind}
 use Rattle.salsa.proofs.Takes.{Takes}

@@ -1,5 +1,5 @@
 -- Reading a stage, and a chain of stages, is taking its tokens.
-use Rattle.std.proofs.Common.{◌≡◌, ℕ, zero, suc, ◌+◌, ◌-◌, ◌<◌, ◌≤◌, Bool, true, false, ◌||◌, ◌&&◌, ◌⊎◌, List, [], ◌∷◌, ◌++◌, map, length, cond, codes, Option, Some, None, option_map, option_and_then, refl, ap, sym, ◌∙◌, subst, arith, append_assoc, inl, inr}
+use Rattle.std.proofs.Common.{◌≡◌, ℕ, zero, suc, ◌≤◌, true, ◌⊎◌, List, [], ◌∷◌, ◌++◌, map, length, codes, Option, Some, None, option_map, option_and_then, refl, ap, sym, ◌∙◌, subst, arith, append_assoc, inl, inr}
 use Rattle.std.specs.Str.{bytes_eq}
 use Rattle.std.proofs.lemmas.Bool.{or_cases}
 use Rattle.std.proofs.lemmas.Option.{cond_some}
@@ -8,12 +8,12 @@ use Rattle.sal_ast.specs.declared.program.Ident.{Ident}
 use Rattle.sal_ast.specs.declared.statement.Stage.{Stage}
 use Rattle.sal_source.specs.Prints.{Print, stage_of}
 use Rattle.salsa.specs.Tokens.{Token, is_identifier}
-use Rattle.salsa.specs.Form.{word, word_at, name_of, string_of, stage_tokens, further_tokens, statement_tokens, IsPlain, IsPlainIfThere, IsPrint, ArePrints}
-use Rattle.salsa.specs.Reading.{skip_blanks, after_sign, behind, word_read, name_read, string_read, aim_read, is_print, if_print, handler_read, argument_read, print_of, stage_handled, stage_aimed, stage_read, stages_read, more_or_end, with_stage}
+use Rattle.salsa.specs.Form.{word, word_at, name_of, string_of, stage_tokens, further_tokens, statement_tokens, IsPlainIfThere, IsPrint, ArePrints}
+use Rattle.salsa.specs.Reading.{after_sign, behind, word_read, name_read, string_read, aim_read, is_print, if_print, handler_read, argument_read, print_of, stage_handled, stage_aimed, stage_read, stages_read, more_or_end, with_stage}
 use Rattle.salsa.proofs.Takes.{Takes, Cuts}
 use Rattle.salsa.proofs.Pieces.{then_is, map_is, Alone, sign_takes, takes_sign, takes_other, read_word_takes, takes_read_word, behind_is, behind_of}
 use Rattle.salsa.proofs.Names.{IsName, name_takes, takes_name}
-use Rattle.salsa.proofs.Strings.{IsString, string_is, takes_string, quoted}
+use Rattle.salsa.proofs.Strings.{IsString, string_is, takes_string}
 
 -- what follows these tokens, follows them in the text
 abbrev pub Leads : ℕ → List Token → List ℕ → List ℕ → Type 0

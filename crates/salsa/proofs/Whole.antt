@@ -1,13 +1,12 @@
 -- What the reader gives is what the text spells.
-use Rattle.std.proofs.Common.{◌≡◌, ℕ, zero, suc, ◌+◌, ◌-◌, ◌<◌, ◌≤◌, Bool, true, false, cond, nat_lt, List, [], ◌∷◌, ◌++◌, length, Option, Some, None, option_map, option_and_then, Result, Ok, Err, IfOk, refl, ap, sym, ◌∙◌, subst, arith, zero-add}
+use Rattle.std.proofs.Common.{◌≡◌, ℕ, ◌≤◌, Bool, true, false, cond, nat_lt, List, ◌++◌, length, Option, Some, None, option_map, option_and_then, Result, Ok, Err, IfOk, refl, ap, sym, ◌∙◌, subst, zero-add}
 use Rattle.std.specs.Str.{IsUtf8}
 use Rattle.std.proofs.lemmas.Bool.{ltb-false, le-ltb}
 use Rattle.sal_ast.specs.declared.program.Program.{Program}
 use Rattle.sal_ast.specs.declared.statement.Stmt.{Stmt}
-use Rattle.sal_source.specs.Prints.{Print, Outline, program_of, body_of}
+use Rattle.sal_source.specs.Prints.{Print, Outline, program_of}
 use Rattle.sal_value.specs.declared.text.NoMemory.{NoMemory}
 use Rattle.salsa.specs.Form.{Read, Spells, Outlines, program_tokens, statement_tokens}
-use Rattle.salsa.specs.Tokens.{Cut}
 use Rattle.salsa.specs.Reading.{text_of, Header, header_of, head_read, body_read, tree_of, program_headed, program_read, form_read}
 use Rattle.salsa.proofs.Takes.{Cuts, of_cut, to_cut}
 use Rattle.salsa.proofs.Texts.{text_yes, text_is}

@@ -1,6 +1,5 @@
 -- What the parts that the reader found stand for.
 use Rattle.std.specs.Prelude.{ℕ, List, Option, option_map}
-use Rattle.std.specs.Option.{option_copied}
 use denote.Ref.{Bor}
 use Rattle.sal_ast.specs.declared.program.Ident.{Ident}
 use Rattle.sal_ast.specs.declared.statement.Stage.{Stage as Stage}
