@@ -145,6 +145,20 @@ pub record HeadRead (whole : ℕ) (text : List ℕ) (found : Header × List ℕ)
   pub words : is_identifier found.0.words.text ≡ true
   pub leads : Leads whole (head_tokens found.0) text found.1
 
+head_read_as : (whole : ℕ) (text : List ℕ) (t : Ident × List ℕ) (a s : ℕ × List ℕ) (w : Ident × List ℕ) (found : Header × List ℕ) →
+    NameRead whole title_tokens text t → Leads whole (act_tokens a.0) t.1 a.1 → Leads whole (sort_tokens s.0) a.1 s.1 → NameRead whole words_tokens s.1 w →
+    (header_of t.0 a.0 s.0 w.0, w.1) ≡ found → HeadRead whole text found
+head_read_as whole text t a s w found titled acted sorted worded e =
+    let all : HeadRead whole text (header_of t.0 a.0 s.0 w.0, w.1) =
+    record {
+      name = titled.identifier;
+      words = worded.identifier;
+      leads = λ more k.
+          titled.leads (act_tokens a.0 ++ (sort_tokens s.0 ++ (words_tokens w.0 ++ more)))
+          (acted (sort_tokens s.0 ++ (words_tokens w.0 ++ more)) (sorted (words_tokens w.0 ++ more) (worded.leads more k)));
+    } in
+    subst (HeadRead whole text) e all
+
 pub head_leads : (whole : ℕ) (text : List ℕ) (found : Header × List ℕ) → head_read whole text ≡ Some found → HeadRead whole text found
 unfolding head_read
 head_leads whole text found h =
@@ -152,18 +166,8 @@ head_leads whole text found h =
     let u = then_is (head_acted whole t.0.0) (act_read whole t.0.1) found t.2 in
     let v = then_is (head_sorted whole t.0.0 u.0.0) (sort_read whole u.0.1) found u.2 in
     let w = map_is (λ words. (header_of t.0.0 u.0.0 v.0.0 words.0, words.1)) (words_read whole v.0.1) found v.2 in
-    let titled = title_leads whole text t.0 t.1 in
-    let acted = act_leads whole t.0.1 u.0 u.1 in
-    let sorted = sort_leads whole u.0.1 v.0 v.1 in
-    let worded = words_leads whole v.0.1 w.0 w.1 in
-    subst (HeadRead whole text) w.2
-    record {
-      name = titled.identifier;
-      words = worded.identifier;
-      leads = λ more k.
-          titled.leads (act_tokens u.0.0 ++ (sort_tokens v.0.0 ++ (words_tokens w.0.0 ++ more)))
-          (acted (sort_tokens v.0.0 ++ (words_tokens w.0.0 ++ more)) (sorted (words_tokens w.0.0 ++ more) (worded.leads more k)));
-    }
+    head_read_as whole text t.0 u.0 v.0 w.0 found (title_leads whole text t.0 t.1) (act_leads whole t.0.1 u.0 u.1) (sort_leads whole u.0.1 v.0 v.1)
+    (words_leads whole v.0.1 w.0 w.1) w.2
 
 pub head_found : (whole : ℕ) (h : Header) (text : List ℕ) (more : List Token) → is_identifier h.name.text ≡ true → is_identifier h.words.text ≡ true →
     Cuts whole (head_tokens h ++ more) text → Found (head_read whole text) h whole more

@@ -11,7 +11,7 @@ use Rattle.std.proofs.lemmas.Str.{IsUtf8-from_ascii}
 use Rattle.sal_ast.specs.declared.program.Ident.{Ident}
 use Rattle.salsa.specs.Tokens.{is_name, is_letter, is_digit, is_name_byte, is_identifier, reserved}
 use Rattle.salsa.specs.Form.{name_of}
-use Rattle.salsa.specs.Reading.{skip_blanks, begins_name_byte, begins_letter, is_reserved, place, name_length, text_of, identifier_of, ident_at, named, name_read}
+use Rattle.salsa.specs.Reading.{skip_blanks, begins_name_byte, is_reserved, is_free, place, name_length, text_of, identifier_of, ident_at, named, name_read}
 use Rattle.salsa.proofs.Takes.{Takes}
 use Rattle.salsa.proofs.Texts.{text_yes, text_is}
 use Rattle.salsa.proofs.Pieces.{map_is, longest_of, name_ended, name_token}
@@ -20,7 +20,8 @@ reserved_same : (name : List ℕ) → is_reserved name ≡ list_any (bytes_eq na
 unfolding is_reserved
 reserved_same name = simp (or_assoc, or-false)
 
-identifier_same : (name : List ℕ) → list_all is_name_byte name ≡ true → is_identifier name ≡ (begins_letter name && not (is_reserved name))
+identifier_same : (name : List ℕ) → list_all is_name_byte name ≡ true → is_identifier name ≡ is_free name
+unfolding is_free
 identifier_same [] h = refl
 identifier_same (c ∷ cs) h =
     let p = and_parts (is_name_byte c) (list_all is_name_byte cs) h in
@@ -41,7 +42,7 @@ ascii [] h i = omega arith
 ascii (c ∷ cs) h zero = ascii_byte c (and_parts (is_name_byte c) (list_all is_name_byte cs) h).0
 ascii (c ∷ cs) h (suc i) = ascii cs (and_parts (is_name_byte c) (list_all is_name_byte cs) h).1 i
 
-identifier_at : (name : List ℕ) (text : List ℕ) (b : Bool) → (begins_letter name && not (is_reserved name)) ≡ b → identifier_of name ≡ Some text → (text ≡ name) × (b ≡ true)
+identifier_at : (name : List ℕ) (text : List ℕ) (b : Bool) → is_free name ≡ b → identifier_of name ≡ Some text → (text ≡ name) × (b ≡ true)
 identifier_at name text true e h =
     let f : text_of name ≡ Some text = rw e at h in
     ((text_is name text f).0, refl)
@@ -50,7 +51,7 @@ identifier_at name text false e h = absurd (let f : None ≡ Some text = rw e at
 identifier_found : (name : List ℕ) → is_identifier name ≡ true → identifier_of name ≡ Some name
 identifier_found name h =
     let all : list_all is_name_byte name ≡ true = name_all name (and_parts (is_name name) _ h).0 in
-    let e : (begins_letter name && not (is_reserved name)) ≡ true = sym (identifier_same name all) ∙ h in
+    let e : is_free name ≡ true = sym (identifier_same name all) ∙ h in
     rw e (text_yes name (IsUtf8-from_ascii name (ascii name all)))
 
 record Front (text : List ℕ) : Type 0 where
@@ -90,7 +91,7 @@ name_takes whole text found h =
     let name : List ℕ = take (name_length t) t in
     let rest : List ℕ = drop (name_length t) t in
     let m = map_is (λ n. (ident_at (whole - length t) n, rest)) (identifier_of name) found h in
-    let i = identifier_at name m.0 (begins_letter name && not (is_reserved name)) refl m.1 in
+    let i = identifier_at name m.0 (is_free name) refl m.1 in
     let f : Front t = front t in
     let is : IsName whole text (ident_at (place whole text) name, rest) =
     front_name whole text name rest (sym (take-append-drop (name_length t) t)) (identifier_same name f.all ∙ i.1) f.ended in

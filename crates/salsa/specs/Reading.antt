@@ -102,9 +102,12 @@ abbrev pub begins_letter : List ℕ → Bool
 begins_letter [] = false
 begins_letter (c ∷ cs) = is_letter c
 
+unfoldable pub is_free : List ℕ → Bool
+is_free name = begins_letter name && not (is_reserved name)
+
 -- a name, where it is no word of the language
 abbrev pub identifier_of : List ℕ → Option (List ℕ)
-identifier_of name = cond (begins_letter name && not (is_reserved name)) (text_of name) None
+identifier_of name = cond (is_free name) (text_of name) None
 
 abbrev pub named : ℕ → List ℕ → Option (Ident × List ℕ)
 named whole text =

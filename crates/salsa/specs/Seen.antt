@@ -4,10 +4,10 @@ use denote.Ref.{Bor}
 use Rattle.sal_ast.specs.declared.program.Ident.{Ident}
 use Rattle.sal_ast.specs.declared.statement.Stage.{Stage as Stage}
 use Rattle.sal_source.specs.Prints.{Print as Printed}
-use Rattle.salsa.specs.declared.form.Piece.{Piece}
-use Rattle.salsa.specs.declared.form.Print.{Print}
-use Rattle.salsa.specs.declared.form.Stages.{Stages}
-use Rattle.salsa.specs.declared.form.Head.{Head}
+use Rattle.salsa.specs.declared.form.pieces.Piece.{Piece}
+use Rattle.salsa.specs.declared.form.chains.Print.{Print}
+use Rattle.salsa.specs.declared.form.chains.Stages.{Stages}
+use Rattle.salsa.specs.declared.form.heads.Head.{Head}
 use Rattle.salsa.specs.Reading.{ident_at, print_of, Header, header_of}
 
 abbrev pub ident_seen : Piece → Ident

@@ -1,7 +1,7 @@
 use Rattle.std.proofs.Common.{sym, ◌∙◌, arith}
 use Rattle.salsa.specs.Seen.{print_seen}
 use Rattle.salsa.proofs.Chains.{no_stage, last_stage, one_more_stage, no_stage_left}
-use Rattle.salsa.proofs.form.read_stages.Goals as goal
+use Rattle.salsa.proofs.form.chains.read_stages.Goals as goal
 
 pub returns-in_default : goal.returns-in_default
 returns-in_default c =
