@@ -89,3 +89,11 @@ form_reads text = reads_at text (form_read text) refl
 pub read_ok : (text : List ℕ) (r : Result (Option Program) NoMemory) → IfOk r (λ p. p ≡ form_read text) → IfOk r (λ p. Read text p)
 read_ok text (Ok p) e = subst (Read text) (sym e) (form_reads text)
 read_ok text (Err fault) e = tt
+
+-- a text spells one program at most, and reading gives it
+pub read_is : (text : List ℕ) (o : Option Program) (program : Program) → Read text o → Spells text program → o ≡ Some program
+read_is text None program none s = absurd (none program s)
+read_is text (Some found) program is s =
+    let e : form_read text ≡ Some (program_of s.outline) = complete text s.outline s.outlines in
+    let f : form_read text ≡ Some (program_of is.outline) = complete text is.outline is.outlines in
+    ap (λ p. Some p) is.is ∙ (sym f ∙ (e ∙ ap (λ p. Some p) (sym s.is)))

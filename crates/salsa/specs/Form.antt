@@ -11,12 +11,15 @@ use Rattle.salsa.specs.Tokens.{Token, Cut, is_identifier}
 abbrev pub word : List ℕ → Token
 word bytes = record { bytes = bytes; at = None }
 
+-- the same, where the tree holds its byte
 abbrev pub word_at : List ℕ → ℕ → Token
 word_at bytes at = record { bytes = bytes; at = Some at }
 
+-- a name, and its byte
 abbrev pub name_of : Ident → Token
 name_of name = word_at name.text name.at
 
+-- a text between quotes, and the byte of the first quote; or nothing
 abbrev pub string_of : Option (List ℕ × ℕ) → List Token
 string_of None = []
 string_of (Some text) = word_at (34 ∷ (text.0 ++ 34 ∷ [])) text.1 ∷ []
@@ -31,6 +34,7 @@ abbrev pub further_tokens : List Print → List Token
 further_tokens [] = word (codes ";") ∷ []
 further_tokens (p ∷ ps) = word (codes "@") ∷ (stage_tokens p ++ further_tokens ps)
 
+-- no stage, no statement
 abbrev pub statement_tokens : List Print → List Token
 statement_tokens [] = []
 statement_tokens (p ∷ ps) = stage_tokens p ++ further_tokens ps
@@ -48,19 +52,23 @@ pub record IsPlain (text : List ℕ) : Type 0 where
   pub short : length text ≤ 4096
   pub no_backslash : list_any (nat_eq 92) text ≡ false
 
+-- the same of a text that may be left out
 abbrev pub IsPlainIfThere : Option (List ℕ × ℕ) → Type 0
 IsPlainIfThere None = Unit {0}
 IsPlainIfThere (Some text) = IsPlain text.0
 
+-- the handler is `print` or `println`, and the text is plain
 pub record IsPrint (p : Print) : Type 0 where
   pub handler : (p.handler.text ≡ codes "print") ⊎ (p.handler.text ≡ codes "println")
   pub plain : IsPlainIfThere p.text
 
+-- each of them
 abbrev pub ArePrints : List Print → Type 0
 ArePrints [] = Unit {0}
 ArePrints (p ∷ ps) = IsPrint p × ArePrints ps
 
--- the text is cut into the tokens of this outline
+-- the text is UTF-8 of at most 262,144 bytes, and is cut into the tokens of this outline, which has
+-- at most 1,024 stages
 pub record Outlines (o : Outline) (text : List ℕ) : Type 0 where
   pub name : is_identifier o.name.text ≡ true
   pub words : is_identifier o.words.text ≡ true

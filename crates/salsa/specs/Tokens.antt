@@ -1,5 +1,5 @@
--- How the bytes of a program are cut into tokens. (A part of the lexical rules: no comments, and in
--- a string no escapes.)
+-- How the bytes of a program are cut into tokens. (A part of the lexical rules: there are no comments,
+-- and which escapes a string may have is not said.)
 use Rattle.std.specs.Prelude.{◌≡◌, ℕ, ◌+◌, ◌<◌, ◌≤◌, Bool, true, false, ◌&&◌, ◌||◌, not, cond, nat_eq, nat_le, List, [], ◌∷◌, ◌++◌, length, take, codes, Option, Some, None}
 use Rattle.std.specs.List.{list_any, list_all}
 use Rattle.std.specs.Str.{bytes_eq}
@@ -24,6 +24,7 @@ abbrev pub is_name : List ℕ → Bool
 is_name [] = false
 is_name (c ∷ cs) = is_letter c && list_all is_name_byte cs
 
+-- a run of digits
 abbrev pub is_number : List ℕ → Bool
 is_number [] = false
 is_number (c ∷ cs) = list_all is_digit (c ∷ cs)
@@ -39,6 +40,7 @@ is_closed escaped [] = false
 is_closed true (c ∷ cs) = not (nat_eq c 10) && is_closed false cs
 is_closed false (c ∷ cs) = cond (nat_eq c 34) (is_empty cs) (not (nat_eq c 10) && is_closed (nat_eq c 92) cs)
 
+-- from a quote to its closing quote
 abbrev pub is_string : List ℕ → Bool
 is_string [] = false
 is_string (c ∷ cs) = nat_eq c 34 && is_closed false cs
@@ -59,6 +61,7 @@ is_token bytes = is_name bytes || is_number bytes || is_string bytes || is_sign 
 abbrev pub IsLongest : List ℕ → List ℕ → Type 0
 IsLongest token rest = (n : ℕ) → 0 < n → n ≤ length rest → is_token (token ++ take n rest) ≡ false
 
+-- the words of the language
 abbrev pub reserved : List (List ℕ)
 reserved =
     codes "behavior" ∷ codes "new" ∷ codes "int" ∷ codes "boolean" ∷ codes "String" ∷ codes "void" ∷ codes "long"
@@ -75,6 +78,7 @@ pub record Token : Type 0 where
   pub bytes : List ℕ
   pub at : Option ℕ
 
+-- where the tree holds the token's byte, it is this one
 abbrev pub StandsAt : Option ℕ → ℕ → Type 0
 StandsAt None place = Unit {0}
 StandsAt (Some at) place = at ≡ place

@@ -32,6 +32,7 @@ fn is_end(text: &[u8]) -> bool
     }
 }
 
+/// Whether the text is `;` and then ends with two closing braces.
 fn ends_with(text: &[u8]) -> bool
     ensures { result ≡ ends_with (after_sign (codes ";") text.now) }
 {
