@@ -19,11 +19,11 @@ returns-then-not-branch c = record {
       rw (← add-one)
       (played_on c.args.program.now (first c.args.program.now c.args.setup.now) c.loop-i.config c.args.steps.now c.loop-i.i c.index-steps-i.result None
       (slice_get_is c.args.steps.now c.loop-i.i c.index-steps-i.result c.loop-i-test.true c.index-steps-i.is) c.loop-i.invariant
-      (did_no (step c.args.program.now c.loop-i.config c.index-steps-i.result) c.in_ok-step.field-0 c.step.new.config c.in_ok-step.ensures ?));
+      (did_no (step c.args.program.now c.loop-i.config c.index-steps-i.result) c.in_ok-step.field-0 c.step.new.config c.in_ok-step.ensures (search rules)));
 }
 
 pub loop-i-preserved : goal.loop-i-preserved
 loop-i-preserved c =
     played_on c.args.program.now (first c.args.program.now c.args.setup.now) c.loop-i.config c.args.steps.now c.loop-i.i c.index-steps-i.result (Some c.step.new.config)
     (slice_get_is c.args.steps.now c.loop-i.i c.index-steps-i.result c.loop-i-test.true c.index-steps-i.is) c.loop-i.invariant
-    (did_yes (step c.args.program.now c.loop-i.config c.index-steps-i.result) c.in_ok-step.field-0 c.step.new.config c.in_ok-step.ensures ?)
+    (did_yes (step c.args.program.now c.loop-i.config c.index-steps-i.result) c.in_ok-step.field-0 c.step.new.config c.in_ok-step.ensures (search rules))
