@@ -2,6 +2,7 @@
 //! repetitions, and in `at` the byte of a form's first token.
 #![tactic(auto)]
 
+mod depth;
 mod expression;
 mod lexeme;
 mod program;

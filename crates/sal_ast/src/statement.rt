@@ -64,7 +64,10 @@ pub enum Stmt {
         chain: Chain,
     },
     /// A chain. `passed` is the byte of `currentContinuation`, where the chain ends in it.
-    Chain { chain: Chain, passed: Option<u32> },
+    Chain {
+        chain: Chain,
+        passed: Option<u32>,
+    },
 }
 
 /// Stages, each of which waits for the one before it.
