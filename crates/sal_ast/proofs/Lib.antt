@@ -1,1 +1,3 @@
 pub mod DepthEquations
+pub mod SpellEquations
+pub mod SpellSteps

@@ -6,6 +6,7 @@ mod depth;
 mod expression;
 mod lexeme;
 mod program;
+mod spell;
 mod statement;
 
 pub use expression::{At, Expr, Op, Operand, Suffix};
