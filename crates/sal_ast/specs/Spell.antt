@@ -95,9 +95,10 @@ abbrev pub joined : String → List Pieces → Pieces
 joined text [] = []
 joined text (x ∷ xs) = x ++ led text xs
 
-abbrev pub comma_if : Bool → Pieces
-comma_if true = sign ","
-comma_if false = []
+-- a sign, but not before the first item
+abbrev pub sign_if : Bool → List ℕ → Pieces
+sign_if true text = piece kind.Sign text None
+sign_if false text = []
 
 abbrev pub if_there : Option Pieces → Pieces
 if_there None = []
@@ -240,6 +241,11 @@ spell_init init.Nothing = []
 spell_init (init.Declare d) = spell_declare d
 spell_init (init.Assign a) = spell_assign a
 
+-- "(" [ decl | assign ] ";" [ expr ] ";" [ assign ] ")"
+unfoldable pub spell_header : ForInit → Option Expr → Option Assign → Pieces
+spell_header first test next =
+    sign "(" ++ spell_init first ++ sign ";" ++ spell_option test ++ sign ";" ++ if_there (option_map spell_assign next) ++ sign ")"
+
 -- [ target "<-" ], where a target is "standardOutput" or an expression
 abbrev pub spell_aim : Aim → Pieces
 spell_aim aim.Own = []
@@ -300,8 +306,7 @@ stmt_pieces (Stmt-F.If at test first second) =
 stmt_pieces (Stmt-F.While at test body) = word_at "while" at ++ sign "(" ++ spell_expr test ++ sign ")" ++ body
 -- "for" "(" [ decl | assign ] ";" [ expr ] ";" [ assign ] ")" stmt
 stmt_pieces (Stmt-F.For at first test next body) =
-    word_at "for" at ++ sign "(" ++ spell_init first ++ sign ";" ++ spell_option test ++ sign ";"
-    ++ if_there (option_map spell_assign next) ++ sign ")" ++ body
+    word_at "for" at ++ spell_header first test next ++ body
 -- "return" [ expr ] ";"
 stmt_pieces (Stmt-F.Return at value) = word_at "return" at ++ spell_option value ++ sign ";"
 -- "token" Id "=" chain ";"

@@ -7,6 +7,7 @@ mod expression;
 mod lexeme;
 mod program;
 mod spell;
+mod spell_program;
 mod statement;
 
 pub use expression::{At, Expr, Op, Operand, Suffix};

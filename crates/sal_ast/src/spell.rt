@@ -12,7 +12,7 @@ use crate::program::{BaseName, Ident, TypeName};
 use sal_value::{Boxed, List, NoMemory, Text};
 use std::alloc::Global;
 
-fn push(
+pub(crate) fn push(
     alloc: Global,
     out: &mut List<Lexeme>,
     kind: Kind,
@@ -24,26 +24,26 @@ fn push(
     out.push(Lexeme { kind, text })
 }
 
-fn word(alloc: Global, out: &mut List<Lexeme>, text: &str) -> Result<(), NoMemory>
+pub(crate) fn word(alloc: Global, out: &mut List<Lexeme>, text: &str) -> Result<(), NoMemory>
     ensures { OnOk result (Adds out.old out.new (piece kind.Word text.now None)) }
 {
     push(alloc, out, Kind::Word, text)
 }
 
-fn sign(alloc: Global, out: &mut List<Lexeme>, text: &str) -> Result<(), NoMemory>
+pub(crate) fn sign(alloc: Global, out: &mut List<Lexeme>, text: &str) -> Result<(), NoMemory>
     ensures { OnOk result (Adds out.old out.new (piece kind.Sign text.now None)) }
 {
     push(alloc, out, Kind::Sign, text)
 }
 
 /// An identifier that the grammar spells out.
-fn named(alloc: Global, out: &mut List<Lexeme>, text: &str) -> Result<(), NoMemory>
+pub(crate) fn named(alloc: Global, out: &mut List<Lexeme>, text: &str) -> Result<(), NoMemory>
     ensures { OnOk result (Adds out.old out.new (piece kind.Id text.now None)) }
 {
     push(alloc, out, Kind::Id, text)
 }
 
-fn ident(alloc: Global, out: &mut List<Lexeme>, name: &Ident) -> Result<(), NoMemory>
+pub(crate) fn ident(alloc: Global, out: &mut List<Lexeme>, name: &Ident) -> Result<(), NoMemory>
     ensures { OnOk result (Adds out.old out.new (identifier name.now)) }
 {
     push(alloc, out, Kind::Id, name.text.as_str())
@@ -56,12 +56,17 @@ fn number(alloc: Global, out: &mut List<Lexeme>, number: u32) -> Result<(), NoMe
     push(alloc, out, Kind::Number, text.as_str())
 }
 
-/// A comma before each item but the first.
-fn comma_if(alloc: Global, out: &mut List<Lexeme>, begun: bool) -> Result<(), NoMemory>
-    ensures { OnOk result (Adds out.old out.new (spec.comma_if begun)) }
+/// A sign, but not before the first item.
+pub(crate) fn sign_if(
+    alloc: Global,
+    out: &mut List<Lexeme>,
+    text: &str,
+    begun: bool,
+) -> Result<(), NoMemory>
+    ensures { OnOk result (Adds out.old out.new (spec.sign_if begun text.now)) }
 {
     if begun {
-        sign(alloc, out, ",")?;
+        sign(alloc, out, text)?;
     }
     Ok(())
 }
@@ -88,7 +93,11 @@ fn pairs(alloc: Global, out: &mut List<Lexeme>, dims: u32) -> Result<(), NoMemor
     Ok(())
 }
 
-fn type_name(alloc: Global, out: &mut List<Lexeme>, sort: &TypeName) -> Result<(), NoMemory>
+pub(crate) fn type_name(
+    alloc: Global,
+    out: &mut List<Lexeme>,
+    sort: &TypeName,
+) -> Result<(), NoMemory>
     ensures { OnOk result (Adds out.old out.new (spec.spell_type sort.now)) }
 {
     base(alloc, out, sort)?;
@@ -152,7 +161,7 @@ fn reference(
 
 #[cycle(expr)]
 #[tactic(auto, using(std::proofs::lemmas::Grind::common_steps, crate::proofs::SpellEquations::equations, crate::proofs::SpellSteps::reference_place))]
-fn expr(alloc: Global, out: &mut List<Lexeme>, tree: &Expr) -> Result<(), NoMemory>
+pub(crate) fn expr(alloc: Global, out: &mut List<Lexeme>, tree: &Expr) -> Result<(), NoMemory>
     ensures { OnOk result (Adds out.old out.new (spec.spell_expr tree.now)) }
 {
     match tree {
@@ -237,7 +246,7 @@ fn exprs(alloc: Global, out: &mut List<Lexeme>, items: &[Expr]) -> Result<(), No
 {
     let mut begun = false;
     for item in items {
-        comma_if(alloc, out, begun)?;
+        sign_if(alloc, out, ",", begun)?;
         expr(alloc, out, item)?;
         begun = true;
     }
@@ -294,11 +303,7 @@ fn suffix(alloc: Global, out: &mut List<Lexeme>, item: &Suffix) -> Result<(), No
 /// The texts of `at`.
 #[cycle(expr)]
 #[tactic(auto, using(std::proofs::lemmas::Grind::common_steps, crate::proofs::SpellEquations::equations))]
-fn placed(
-    alloc: Global,
-    out: &mut List<Lexeme>,
-    place: &Option<Boxed<At>>,
-) -> Result<(), NoMemory>
+fn placed(alloc: Global, out: &mut List<Lexeme>, place: &Option<Boxed<At>>) -> Result<(), NoMemory>
     ensures { OnOk result (Adds out.old out.new (if_there (option_map spec.spell_at place.now))) }
 {
     match place {

@@ -5,7 +5,7 @@ use Rattle.sal_ast.specs.Spell as spec
 use Rattle.sal_ast.proofs.spell.+expr.Given as goal
 
 abbrev pub invariant-exprs-loop-item : goal.invariant-exprs-loop-item
-invariant-exprs-loop-item l = l.out ++ lexemes (go_on l.begun (map spec.spell_expr (drop l.item-index l.items))) ≡ l.fn.out ++ lexemes (joined "," (map spec.spell_expr l.items))
+invariant-exprs-loop-item l = l.out ++ lexemes (go_on l.begun "," (map spec.spell_expr (drop l.item-index l.items))) ≡ l.fn.out ++ lexemes (joined "," (map spec.spell_expr l.items))
 
 abbrev pub invariant-operands-loop-item : goal.invariant-operands-loop-item
 invariant-operands-loop-item l = l.out ++ lexemes (all (map spec.spell_operand (drop l.item-index l.rest))) ≡ l.fn.out ++ lexemes (all (map spec.spell_operand l.rest))
