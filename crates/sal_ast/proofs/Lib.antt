@@ -1,3 +1,4 @@
 pub mod DepthEquations
+pub mod RegularEquations
 pub mod SpellEquations
 pub mod SpellSteps
