@@ -1,3 +1,5 @@
+pub mod Closing
+pub mod ClosingStatements
 pub mod DepthEquations
 pub mod RegularEquations
 pub mod SpellEquations

@@ -1,3 +1,4 @@
+pub mod Brackets
 pub mod Depth
 pub mod Lexemes
 pub mod Regular

@@ -4,13 +4,17 @@
 
 mod depth;
 mod expression;
+mod law;
 mod lexeme;
 mod program;
 mod spell;
 mod spell_program;
 mod statement;
+#[cfg(test)]
+mod tests;
 
 pub use expression::{At, Expr, Op, Operand, Suffix};
+pub use law::{brackets_are_closed, spellings_are_not_empty};
 pub use lexeme::{Kind, Lexeme};
 pub use program::{BaseName, Behavior, Ident, Member, Param, Program, TypeName};
 pub use statement::{Aim, Arg, Assign, Chain, Declare, ForInit, Property, Send, Stage, Stmt};
