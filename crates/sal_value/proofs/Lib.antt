@@ -1,3 +1,6 @@
+pub mod Bytes
+pub mod Cuts
 pub mod Decimals
 pub mod Keys
+pub mod Numbers
 pub mod Texts

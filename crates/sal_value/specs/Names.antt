@@ -1,15 +1,20 @@
 -- The texts of names and locators.
-use Rattle.std.specs.Prelude.{ℕ, List, [], ◌∷◌, ◌++◌, map, codes}
-use Rattle.std.specs.Char.{to_ascii_lowercase}
+use Rattle.std.specs.Prelude.{◌≡◌, ℕ, ◌≤◌, ◌==◌, nat_le, Bool, true, false, ◌&&◌, ◌||◌, not, IsTrue, List, [], ◌∷◌, ◌++◌, length, map, codes, Result, Ok, Err, ◌↔◌}
+use Rattle.std.specs.Char.{to_ascii_lowercase, is_ascii_lowercase, is_ascii_uppercase, is_ascii_digit}
+use Rattle.std.specs.List.{list_all}
 use Rattle.std.specs.Fmt.{decimal}
 use Rattle.sal_value.specs.declared.name.Uan.{Uan}
 use Rattle.sal_value.specs.declared.name.Ual.{Ual}
+use Rattle.sal_value.specs.declared.name.NameFault.{NameFault}
+use Rattle.sal_value.specs.declared.name.NameFault.TheVariants as fault
+
+-- ---- canonical texts
 
 -- in lower case
 abbrev pub lowered : List ℕ → List ℕ
 lowered bytes = map to_ascii_lowercase bytes
 
--- host and port, as canonical texts have them: `host:port`
+-- host and port as canonical texts have them: `host:port`
 abbrev pub address_text : List ℕ → ℕ → List ℕ
 address_text host port = lowered host ++ 58 ∷ decimal port
 
@@ -20,3 +25,135 @@ uan_text u = codes "uan://" ++ (address_text u.host u.port ++ 47 ∷ u.path)
 -- the canonical text of a locator: `rmsp://host:port/`
 unfoldable pub ual_text : Ual → List ℕ
 ual_text l = codes "rmsp://" ++ (address_text l.host l.port ++ 47 ∷ [])
+
+-- ---- what hosts and paths are made of
+
+-- a letter in lower case, a digit, `-` or `.`
+abbrev pub is_host_byte : ℕ → Bool
+is_host_byte b = is_ascii_lowercase b || (is_ascii_digit b || (b == 45 || b == 46))
+
+-- 1 to 255 of them
+unfoldable pub is_host : List ℕ → Bool
+is_host host = nat_le 1 (length host) && (nat_le (length host) 255 && list_all is_host_byte host)
+
+-- a letter, a digit, or one of `/ . _ - ~ + = % @ : ?`
+abbrev pub is_path_byte : ℕ → Bool
+is_path_byte b = is_ascii_lowercase b || (is_ascii_uppercase b || (is_ascii_digit b || (b == 47 || (b == 46 || (b == 95
+    || (b == 45 || (b == 126 || (b == 43 || (b == 61 || (b == 37 || (b == 64 || (b == 58 || b == 63))))))))))))
+
+-- at most 1,024 of them
+unfoldable pub is_path : List ℕ → Bool
+is_path path = nat_le (length path) 1024 && list_all is_path_byte path
+
+-- ---- texts as they may be written
+
+-- none of the bytes passes the test
+abbrev pub NonePass : (ℕ → Bool) → List ℕ → Type 0
+NonePass test [] = Unit {0}
+NonePass test (b ∷ bytes) = (test b ≡ false) × NonePass test bytes
+
+-- there is no byte, or the first one passes the test
+abbrev pub FirstPasses : (ℕ → Bool) → List ℕ → Type 0
+FirstPasses test [] = Unit {0}
+FirstPasses test (b ∷ bytes) = test b ≡ true
+
+abbrev pub is_colon : ℕ → Bool
+is_colon b = b == 58
+
+abbrev pub is_slash : ℕ → Bool
+is_slash b = b == 47
+
+abbrev pub ends_host : ℕ → Bool
+ends_host b = is_colon b || is_slash b
+
+-- How one kind of text is written: its scheme, the port where none stands, and which paths are good.
+pub record Kind : Type 0 where
+  pub scheme : List ℕ
+  pub usual : ℕ
+  pub path : List ℕ → Bool
+
+-- The path of a name begins with `/` and isn't empty.
+abbrev pub is_uan_path : List ℕ → Bool
+is_uan_path [] = false
+is_uan_path (slash ∷ path) = nat_le 1 (length path) && is_path path
+
+-- That of a locator may be left out or be empty.
+abbrev pub is_ual_path : List ℕ → Bool
+is_ual_path [] = true
+is_ual_path (slash ∷ path) = is_path path
+
+abbrev pub name_kind : Kind
+name_kind = record { scheme = codes "uan://"; usual = 3030; path = is_uan_path }
+
+abbrev pub locator_kind : Kind
+locator_kind = record { scheme = codes "rmsp://"; usual = 4040; path = is_ual_path }
+
+-- texts of this scheme, whatever their paths
+abbrev pub any_path : List ℕ → ℕ → Kind
+any_path scheme usual = record { scheme = scheme; usual = usual; path = λ _. true }
+
+-- A text cut into its parts. The scheme may be in either case. The host goes to the first `:` or `/` or to
+-- the end. A port begins with `:` and goes to the first `/` or to the end. The path is the rest, with its `/`.
+pub record Parts (scheme text host port path : List ℕ) : Type 0 where
+  pub written : List ℕ
+  pub is_scheme : lowered written ≡ scheme
+  pub whole : text ≡ written ++ (host ++ (port ++ path))
+  pub host_ends : NonePass ends_host host
+  pub port_begins : FirstPasses is_colon port
+  pub port_ends : NonePass is_slash port
+  pub path_begins : FirstPasses is_slash path
+
+-- The number that a port's part writes: from 1 to 65,535, in decimal. No part writes the usual one.
+abbrev pub IsPort : ℕ → List ℕ → ℕ → Type 0
+IsPort usual [] n = n ≡ usual
+IsPort usual (colon ∷ digits) n = (digits ≡ decimal n) × (1 ≤ n) × (n ≤ 65535)
+
+-- each part of the text is good, and its port is n
+pub record Written (kind : Kind) (text host : List ℕ) (n : ℕ) (path : List ℕ) : Type 0 where
+  pub port : List ℕ
+  pub parts : Parts kind.scheme text host port path
+  pub is_host : is_host (lowered host) ≡ true
+  pub is_port : IsPort kind.usual port n
+  pub is_path : kind.path path ≡ true
+
+-- The text is refused for its first part that isn't good.
+abbrev pub Refused : Kind → List ℕ → NameFault → Type 0
+Refused kind text fault.Scheme = (scheme rest : List ℕ) → text ≡ scheme ++ rest → lowered scheme ≡ kind.scheme → ⊥
+Refused kind text fault.Host = (host port path : List ℕ) × Parts kind.scheme text host port path × (is_host (lowered host) ≡ false)
+Refused kind text fault.Port = (host port path : List ℕ) × Parts kind.scheme text host port path × (is_host (lowered host) ≡ true) × ((n : ℕ) → IsPort kind.usual port n → ⊥)
+Refused kind text fault.Path = (host port path : List ℕ) × Parts kind.scheme text host port path × (is_host (lowered host) ≡ true) × ((n : ℕ) × IsPort kind.usual port n) × (kind.path path ≡ false)
+Refused kind text fault.Memory = Unit {0}
+
+-- what reading a name answers
+abbrev pub ReadsUan : List ℕ → Result Uan NameFault → Type 0
+ReadsUan text (Ok u) = (host : List ℕ) × Written name_kind text host u.port (47 ∷ u.path) × (u.host ≡ lowered host)
+ReadsUan text (Err f) = Refused name_kind text f
+
+-- what reading a locator answers, whose path is dropped
+abbrev pub ReadsUal : List ℕ → Result Ual NameFault → Type 0
+ReadsUal text (Ok l) = (host path : List ℕ) × Written locator_kind text host l.port path × (l.host ≡ lowered host)
+ReadsUal text (Err f) = Refused locator_kind text f
+
+-- ---- names that reading gives
+
+abbrev pub is_port : ℕ → Bool
+is_port n = nat_le 1 n && nat_le n 65535
+
+-- a name with a good host in lower case, a good port and a good path
+unfoldable pub is_uan : Uan → Bool
+is_uan u = is_host u.host && (is_port u.port && is_uan_path (47 ∷ u.path))
+
+unfoldable pub is_ual : Ual → Bool
+is_ual l = is_host l.host && is_port l.port
+
+-- They are the names that reading gives, and each is read again from its canonical text.
+pub record NamesAreRead : Type 0 where
+  pub given : (text : List ℕ) (u : Uan) → ReadsUan text (Ok u) → IsTrue (is_uan u)
+  pub again : (u : Uan) → IsTrue (is_uan u) → ReadsUan (uan_text u) (Ok u)
+  pub one : (text : List ℕ) (u v : Uan) → ReadsUan text (Ok u) → ReadsUan text (Ok v) → u ≡ v
+
+-- the same of locators
+pub record LocatorsAreRead : Type 0 where
+  pub given : (text : List ℕ) (l : Ual) → ReadsUal text (Ok l) → IsTrue (is_ual l)
+  pub again : (l : Ual) → IsTrue (is_ual l) → ReadsUal (ual_text l) (Ok l)
+  pub one : (text : List ℕ) (l m : Ual) → ReadsUal text (Ok l) → ReadsUal text (Ok m) → l ≡ m

@@ -7,6 +7,7 @@ mod laws;
 mod list;
 mod name;
 mod order;
+mod reading;
 mod text;
 mod value;
 

@@ -1,0 +1,8 @@
+use Rattle.std.proofs.Common.{arith}
+use Rattle.std.proofs.lemmas.Bool.Decides.{nat_tests}
+use Rattle.sal_value.specs.Names.{is_slash}
+use Rattle.sal_value.proofs.Cuts.{none_more}
+use Rattle.sal_value.proofs.reading.port_len.Goals as goal
+
+pub loop-at-preserved : goal.loop-at-preserved
+loop-at-preserved c = none_more is_slash c.args.text.now c.loop-at.at c.loop-at-test.true c.loop-at.invariant (grind (arith, nat_tests))
