@@ -3,7 +3,8 @@ use Rattle.std.proofs.Common.{◌≡◌, ℕ, ◌≤◌, ◌<◌, ◌==◌, Bool
 use Rattle.std.specs.Prelude.{nat_le}
 use Rattle.std.specs.Char.{to_ascii_lowercase}
 use Rattle.std.specs.List.{list_all}
-use Rattle.std.specs.Str.{IsAscii}
+use Rattle.std.specs.Str.{IsAscii, IsUtf8}
+use Rattle.std.proofs.lemmas.Str.{IsUtf8-from_ascii}
 use Rattle.std.proofs.lemmas.Bool.Decides.{nat_tests}
 use Rattle.std.proofs.lemmas.List.{length-map}
 use Rattle.std.proofs.lemmas.Str.Ascii.{IsAscii-nil, IsAscii-cons}
@@ -34,3 +35,39 @@ path_long path l = grind (arith, nat_tests)
 pub path_fits : (path : List ℕ) → length path ≤ 1024 → is_path path ≡ list_all is_path_byte path
 unfolding is_path
 path_fits path l = grind (arith, nat_tests)
+
+host_byte_is_ascii : (b : ℕ) → is_host_byte b ≡ true → b < 128
+host_byte_is_ascii b h = grind (arith, nat_tests)
+
+path_byte_is_ascii : (b : ℕ) → is_path_byte b ≡ true → b < 128
+path_byte_is_ascii b h = grind (arith, nat_tests)
+
+both : (a b : Bool) → a && b ≡ true → (a ≡ true) × (b ≡ true)
+both true b h = (refl, h)
+both false b h = absurd cc
+
+pub all_ascii : (p : ℕ → Bool) → ((b : ℕ) → p b ≡ true → b < 128) → (xs : List ℕ) → list_all p xs ≡ true → IsAscii xs
+all_ascii p low [] h = IsAscii-nil
+all_ascii p low (x ∷ xs) h =
+    let parts = both (p x) (list_all p xs) h in
+    IsAscii-cons x xs (low x parts.0) (all_ascii p low xs parts.1)
+
+pub host_parts : (host : List ℕ) → is_host host ≡ true → (nat_le 1 (length host) ≡ true) × (nat_le (length host) 255 ≡ true) × (list_all is_host_byte host ≡ true)
+unfolding is_host
+host_parts host h =
+    let a = both (nat_le 1 (length host)) (nat_le (length host) 255 && list_all is_host_byte host) h in
+    let b = both (nat_le (length host) 255) (list_all is_host_byte host) a.1 in
+    (a.0, b.0, b.1)
+
+pub path_parts : (path : List ℕ) → is_path path ≡ true → (nat_le (length path) 1024 ≡ true) × (list_all is_path_byte path ≡ true)
+unfolding is_path
+path_parts path h = both (nat_le (length path) 1024) (list_all is_path_byte path) h
+
+pub host_is_ascii : (host : List ℕ) → is_host host ≡ true → IsAscii host
+host_is_ascii host h = all_ascii is_host_byte host_byte_is_ascii host (host_parts host h).2
+
+pub path_is_ascii : (path : List ℕ) → is_path path ≡ true → IsAscii path
+path_is_ascii path h = all_ascii is_path_byte path_byte_is_ascii path (path_parts path h).1
+
+pub text_of_ascii : (bytes : List ℕ) → IsAscii bytes → IsUtf8 bytes
+text_of_ascii = IsUtf8-from_ascii

@@ -53,6 +53,16 @@ pub enum NameFault {
     Memory,
 }
 
+impl From<NoMemory> for NameFault {
+    ghost use Rattle.sal_value.specs.declared.name.NameFault.TheVariants.{Memory};
+
+    ghost from_gives = { λ _ e. e ≡ Memory };
+
+    fn from(_: NoMemory) -> NameFault {
+        NameFault::Memory
+    }
+}
+
 impl Uan {
     ghost use Rattle.sal_value.specs.Names.{uan_text};
 

@@ -5,17 +5,25 @@ ghost use Rattle.std.specs.Char.{to_ascii_lowercase};
 ghost use Rattle.std.specs.List.{list_all};
 ghost use Rattle.std.specs.Fmt.{decimal};
 ghost use Rattle.std.specs.Str.{IsAscii};
-ghost use Rattle.sal_value.specs.Names.{lowered, is_host_byte, is_host as good_host, is_path_byte, is_path as good_path, is_uan_path, is_ual_path, NonePass, FirstPasses, ends_host, is_colon, is_slash, Parts, Written, Kind, IsPort, Refused, ReadsUan, ReadsUal};
+ghost use Rattle.sal_value.specs.Names.{lowered, is_host_byte, is_host as good_host, is_path_byte, is_path as good_path, is_uan_path, is_ual_path, NonePass, FirstPasses, ends_host, is_colon, is_slash, Parts, Written, any_path, IsPort, Refused, ReadsUan, ReadsUal};
 
 use crate::name::{NameFault, Ual, Uan};
 use crate::text::{NoMemory, Text};
 use std::alloc::Global;
 
-/// The parts of a text behind its scheme, as they stand there: the port with its `:`, the path
-/// with its `/`.
-struct Address<'t> {
+/// What stands behind a scheme: the port with its `:`, the path with its `/`.
+#[derive(Clone, Copy)]
+struct Pieces<'t> {
     host: &'t [u8],
     port: &'t [u8],
+    path: &'t [u8],
+}
+
+/// A good host in either case, its port, and what may be a path.
+#[derive(Clone, Copy)]
+struct Address<'t> {
+    host: &'t [u8],
+    port: u16,
     path: &'t [u8],
 }
 
@@ -77,7 +85,7 @@ fn split_port(text: &[u8]) -> (&[u8], &[u8])
 }
 
 /// The parts of the text, if it begins with this scheme in either case.
-fn cut<'t>(text: &'t [u8], scheme: &[u8]) -> Option<Address<'t>>
+fn cut<'t>(text: &'t [u8], scheme: &[u8]) -> Option<Pieces<'t>>
     requires { lowered scheme.now ≡ scheme.now }
     ensures { MatchOption result
         ((written rest : List ℕ) → text.now ≡ written ++ rest → lowered written ≡ scheme.now → ⊥)
@@ -92,7 +100,7 @@ fn cut<'t>(text: &'t [u8], scheme: &[u8]) -> Option<Address<'t>>
     }
     let (host, rest) = rest.split_at(host_len(rest));
     let (port, path) = split_port(rest);
-    Some(Address { host, port, path })
+    Some(Pieces { host, port, path })
 }
 
 /// The number that these digits write, of which the first isn't 0.
@@ -182,5 +190,95 @@ fn is_ual_path(path: &[u8]) -> bool
     match path {
         [] => true,
         [_, rest @ ..] => is_path(rest),
+    }
+}
+
+/// Reads all but the path.
+fn read_address<'t>(text: &'t [u8], scheme: &[u8], usual: u16) -> Result<Address<'t>, NameFault>
+    requires { lowered scheme.now ≡ scheme.now }
+    ensures { MatchResult result
+        (λ a. Written (any_path scheme.now usual) text.now a.host.now a.port a.path.now)
+        (λ f. Refused (any_path scheme.now usual) text.now f) }
+{
+    let Some(pieces) = cut(text, scheme) else {
+        return Err(NameFault::Scheme);
+    };
+    if !is_host(pieces.host) {
+        return Err(NameFault::Host);
+    }
+    let Some(port) = port_of(pieces.port, usual) else {
+        return Err(NameFault::Port);
+    };
+    Ok(Address {
+        host: pieces.host,
+        port,
+        path: pieces.path,
+    })
+}
+
+/// The text of these bytes.
+#[tactic(auto, using(crate::proofs::Bytes::text_of_ascii))]
+fn ascii_text(alloc: Global, bytes: &[u8]) -> Result<Text, NoMemory>
+    requires { IsAscii bytes.now }
+    ensures { IfOk result (λ t. t ≡ bytes.now) }
+{
+    match str::from_utf8(bytes) {
+        Ok(text) => Text::from_text(alloc, text),
+        Err(_) => unreachable!(),
+    }
+}
+
+/// The text of a host, in lower case.
+#[tactic(auto, using(crate::proofs::Bytes::host_is_ascii))]
+fn host_text(alloc: Global, host: &[u8]) -> Result<Text, NoMemory>
+    requires { good_host (lowered host.now) ≡ true }
+    ensures { IfOk result (λ t. t ≡ lowered host.now) }
+{
+    let host = host.to_ascii_lowercase(alloc)?;
+    ascii_text(alloc, host.as_slice())
+}
+
+/// The text of a path.
+#[tactic(auto, using(crate::proofs::Bytes::path_is_ascii))]
+fn path_text(alloc: Global, path: &[u8]) -> Result<Text, NoMemory>
+    requires { good_path path.now ≡ true }
+    ensures { IfOk result (λ t. t ≡ path.now) }
+{
+    ascii_text(alloc, path)
+}
+
+impl Uan {
+    /// Reads a name in any of its spellings.
+    pub fn read(alloc: Global, bytes: &[u8]) -> Result<Uan, NameFault>
+        ensures { ReadsUan bytes.now result }
+    {
+        let address = read_address(bytes, b"uan://", 3030)?;
+        if !is_uan_path(address.path) {
+            return Err(NameFault::Path);
+        }
+        let host = host_text(alloc, address.host)?;
+        let path = path_text(alloc, &address.path[1..])?;
+        Ok(Uan {
+            host,
+            port: address.port,
+            path,
+        })
+    }
+}
+
+impl Ual {
+    /// Reads a locator in any of its spellings. Its path is dropped.
+    pub fn read(alloc: Global, bytes: &[u8]) -> Result<Ual, NameFault>
+        ensures { ReadsUal bytes.now result }
+    {
+        let address = read_address(bytes, b"rmsp://", 4040)?;
+        if !is_ual_path(address.path) {
+            return Err(NameFault::Path);
+        }
+        let host = host_text(alloc, address.host)?;
+        Ok(Ual {
+            host,
+            port: address.port,
+        })
     }
 }
