@@ -42,7 +42,7 @@ host_byte_is_ascii b h = grind (arith, nat_tests)
 path_byte_is_ascii : (b : ℕ) → is_path_byte b ≡ true → b < 128
 path_byte_is_ascii b h = grind (arith, nat_tests)
 
-both : (a b : Bool) → a && b ≡ true → (a ≡ true) × (b ≡ true)
+pub both : (a b : Bool) → a && b ≡ true → (a ≡ true) × (b ≡ true)
 both true b h = (refl, h)
 both false b h = absurd cc
 

@@ -146,14 +146,17 @@ is_uan u = is_host u.host && (is_port u.port && is_uan_path (47 ∷ u.path))
 unfoldable pub is_ual : Ual → Bool
 is_ual l = is_host l.host && is_port l.port
 
--- They are the names that reading gives, and each is read again from its canonical text.
+-- They are the names that reading gives, and each is read again from its canonical text. A text that is
+-- read is read in one way, and isn't refused.
 pub record NamesAreRead : Type 0 where
   pub given : (text : List ℕ) (u : Uan) → ReadsUan text (Ok u) → IsTrue (is_uan u)
   pub again : (u : Uan) → IsTrue (is_uan u) → ReadsUan (uan_text u) (Ok u)
   pub one : (text : List ℕ) (u v : Uan) → ReadsUan text (Ok u) → ReadsUan text (Ok v) → u ≡ v
+  pub sure : (text : List ℕ) (u : Uan) (f : NameFault) → ReadsUan text (Ok u) → ReadsUan text (Err f) → f ≡ fault.Memory
 
 -- the same of locators
 pub record LocatorsAreRead : Type 0 where
   pub given : (text : List ℕ) (l : Ual) → ReadsUal text (Ok l) → IsTrue (is_ual l)
   pub again : (l : Ual) → IsTrue (is_ual l) → ReadsUal (ual_text l) (Ok l)
   pub one : (text : List ℕ) (l m : Ual) → ReadsUal text (Ok l) → ReadsUal text (Ok m) → l ≡ m
+  pub sure : (text : List ℕ) (l : Ual) (f : NameFault) → ReadsUal text (Ok l) → ReadsUal text (Err f) → f ≡ fault.Memory
