@@ -1,7 +1,9 @@
 pub mod Bytes
 pub mod Cuts
 pub mod Decimals
+pub mod Equations
 pub mod Keys
+pub mod Loops
 pub mod Numbers
 pub mod Readings
 pub mod Texts

@@ -49,8 +49,11 @@ pub enum DecodeFault {
 }
 
 impl Value {
+    ghost use Rattle.sal_value.specs.declared.value.Value.{out-Value};
+    ghost use Rattle.sal_value.specs.Membership.{belongs, belongs_alone};
+
     pub fn clone_in(&self, alloc: Global) -> Result<Value, NoMemory>
-        ensures { IfOk result (λ value. value ≡ self.now) }
+        ensures { IfOk result (λ v. v ≡ self.now) }
     {
         match self {
             Value::Int(number) => Ok(Value::Int(*number)),
@@ -65,6 +68,44 @@ impl Value {
             }
             Value::Ref(name) => Ok(Value::Ref(name.clone_in(alloc)?)),
             Value::Null => Ok(Value::Null),
+        }
+    }
+
+    fn belongs_alone(&self, base: Base) -> bool
+        ensures { result ≡ belongs_alone (out-Value self.now) base }
+    {
+        match self {
+            Value::Int(_) => matches!(base, Base::Int),
+            Value::Bool(_) => matches!(base, Base::Bool),
+            Value::Str(_) => matches!(base, Base::Str),
+            Value::Array(_) => false,
+            Value::Ref(_) => matches!(base, Base::Actor(_)),
+            Value::Null => matches!(base, Base::Actor(_) | Base::Void),
+        }
+    }
+
+    /// Whether the value is of the type.
+    #[tactic(auto, using(crate::proofs::Equations::belongs_zero, crate::proofs::Equations::belongs_array), unfolding(crate::specs::Membership::belongs_to))]
+    pub fn belongs(&self, sort: Sort) -> bool
+        ensures { result ≡ belongs self.now sort }
+    {
+        if sort.dims == 0 {
+            return self.belongs_alone(sort.base);
+        }
+        match self {
+            Value::Array(items) => {
+                let inner = Sort {
+                    base: sort.base,
+                    dims: sort.dims - 1,
+                };
+                for item in items.as_slice() {
+                    if !item.belongs(inner) {
+                        return false;
+                    }
+                }
+                true
+            }
+            Value::Int(_) | Value::Bool(_) | Value::Str(_) | Value::Ref(_) | Value::Null => false,
         }
     }
 }
