@@ -6,4 +6,5 @@ pub mod Keys
 pub mod Loops
 pub mod Numbers
 pub mod Readings
+pub mod Rooms
 pub mod Texts

@@ -1,5 +1,5 @@
 -- Values and names on bytes. Numbers have their highest byte first.
-use Rattle.std.specs.Prelude.{ℕ, zero, suc, ◌≤◌, nat_le, Bool, true, false, ◌&&◌, if◌then◌else◌, List, [], ◌∷◌, ◌++◌, length}
+use Rattle.std.specs.Prelude.{ℕ, zero, suc, ◌-◌, Option, Some, None, nat_le, Bool, true, false, ◌&&◌, if◌then◌else◌, List, [], ◌∷◌, ◌++◌, length}
 use Rattle.std.specs.Int.{w16, w32, w64, to_be_bytes, cast_unsigned}
 use Rattle.std.specs.List.{list_all, concat}
 use Rattle.sal_value.specs.declared.name.Name.{Name}
@@ -64,3 +64,17 @@ is_legal v = is_spelled v && nat_le (length (spelling v)) 65536
 -- the size of a legal value, and one more than the greatest of any other
 unfoldable pub size : Value → ℕ
 size v = if is_legal v then length (spelling v) else 65537
+
+-- ---- what is left of a room
+
+-- what so many bytes leave of a room, if they may stand there
+abbrev pub left_of : Bool → ℕ → ℕ → Option ℕ
+left_of good taken room = if good && nat_le taken room then Some (room - taken) else None
+
+-- what a name's spelling leaves
+unfoldable pub room_behind_name : Name → ℕ → Option ℕ
+room_behind_name n room = left_of (name_is_spelled n) (length (name_spelling n)) room
+
+-- what the spelling of a value leaves, of which at most so many arrays may stand in one another
+unfoldable pub room_behind : Value → ℕ → ℕ → Option ℕ
+room_behind v depth room = left_of (fits v depth) (length (spelling v)) room

@@ -1,6 +1,6 @@
 //! Host and port as canonical texts have them.
 
-ghost use Rattle.std.specs.Prelude.{◌≡◌, ◌≤◌, ◌+◌, ◌%◌, ◌++◌, ◌∷◌, [], drop, OnOk};
+ghost use Rattle.std.specs.Prelude.{◌≡◌, ◌≤◌, ◌+◌, ◌%◌, ◌++◌, ◌∷◌, [], length, drop, OnOk};
 ghost use Rattle.std.specs.Fmt.{decimal};
 ghost use Rattle.sal_value.specs.Names.{address_text};
 
@@ -27,7 +27,7 @@ fn digit(number: u16) -> u8
 /// `:port/`, in the last bytes of an array from the place that comes with it.
 #[tactic(auto, using(crate::proofs::Decimals::decimals))]
 pub fn between(port: u16) -> ([u8; 7], usize)
-    ensures place { result.1 ≤ 7 }
+    ensures place { result.1 + length (decimal port) ≡ 5 }
     ensures bytes { drop result.1 result.0 ≡ 58 ∷ (decimal port ++ 47 ∷ []) }
 {
     let tens = port / 10;

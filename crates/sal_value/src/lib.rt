@@ -8,6 +8,7 @@ mod list;
 mod name;
 mod order;
 mod reading;
+mod size;
 mod text;
 mod value;
 

@@ -164,9 +164,26 @@ fn is_host(host: &[u8]) -> bool
     all_of_hosts(host)
 }
 
+fn all_of_lower_hosts(host: &[u8]) -> bool
+    ensures { result ≡ list_all is_host_byte host.now }
+{
+    host.iter().all(|byte| is_host_byte(*byte))
+}
+
+/// A host in lower case.
+#[tactic(auto, unfolding(crate::specs::Names::is_host))]
+pub fn is_lower_host(host: &[u8]) -> bool
+    ensures { result ≡ good_host host.now }
+{
+    if host.is_empty() || host.len() > 255 {
+        return false;
+    }
+    all_of_lower_hosts(host)
+}
+
 /// What may follow the `/`.
 #[tactic(auto, using(crate::proofs::Bytes::path_long, crate::proofs::Bytes::path_fits))]
-fn is_path(path: &[u8]) -> bool
+pub fn is_path(path: &[u8]) -> bool
     ensures { result ≡ good_path path.now }
 {
     if path.len() > 1024 {
