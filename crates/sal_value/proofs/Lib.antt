@@ -8,3 +8,4 @@ pub mod Numbers
 pub mod Readings
 pub mod Rooms
 pub mod Texts
+pub mod Utf8

@@ -3,6 +3,7 @@
 
 mod address;
 mod boxed;
+mod fields;
 mod laws;
 mod list;
 mod name;
