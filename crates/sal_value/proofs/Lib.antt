@@ -1,7 +1,9 @@
 pub mod Bytes
+pub mod Canonical
 pub mod Cuts
 pub mod Decimals
 pub mod Equations
+pub mod Items
 pub mod Keys
 pub mod Loops
 pub mod Numbers

@@ -126,13 +126,13 @@ host_inside (b ∷ host) h =
 digit_inside : (c : ℕ) → 48 ≤ c → c ≤ 57 → is_slash c ≡ false
 digit_inside c low high = grind (arith, nat_tests)
 
-digits_inside : (ds : List ℕ) → AllDigits 10 ds → NonePass is_slash ds
+pub digits_inside : (ds : List ℕ) → AllDigits 10 ds → NonePass is_slash ds
 digits_inside [] h = tt
 digits_inside (c ∷ ds) h =
     let range = digit_from_value c h.0 in
     (digit_inside c range.0 range.1, digits_inside ds h.1)
 
-port_range : (n : ℕ) → is_port n ≡ true → (1 ≤ n) × (n ≤ 65535)
+pub port_range : (n : ℕ) → is_port n ≡ true → (1 ≤ n) × (n ≤ 65535)
 port_range n h = grind (arith, nat_tests)
 
 again : (scheme host : List ℕ) (port : ℕ) (path : List ℕ) → lowered scheme ≡ scheme → is_host host ≡ true → is_port port ≡ true → FirstPasses is_slash path

@@ -5,10 +5,12 @@ use Rattle.std.specs.List.{before_first, after_first}
 use Rattle.std.specs.Str.{is_utf8, bytes_eq}
 use Rattle.std.specs.Str.Parse.{digits_value}
 use Rattle.sal_value.specs.declared.fields.Fault.{Fault}
-use Rattle.sal_value.specs.declared.fields.Fault.TheVariants.{Cut, Bad}
+use Rattle.sal_value.specs.declared.fields.Fault.TheVariants.{Cut, Bad, Memory}
 use Rattle.sal_value.specs.declared.name.Name.{Name}
 use Rattle.sal_value.specs.declared.name.Name.TheVariants as name
 use Rattle.sal_value.specs.declared.name.Uan.{Uan}
+use Rattle.sal_value.specs.declared.value.DecodeFault.{DecodeFault}
+use Rattle.sal_value.specs.declared.value.DecodeFault.TheVariants as fault
 use Rattle.sal_value.specs.declared.value.Value.{Value}
 use Rattle.sal_value.specs.declared.value.Value.TheVariants as value
 use Rattle.sal_value.specs.Names.{uan_text, is_uan, is_colon, is_slash}
@@ -104,13 +106,18 @@ items_at item (suc n) bytes = do
   others ← items_at item n first.1
   Ok (first.0 ∷ others.0, others.1)
 
--- a count of at most 4,096, and so many items
+-- at most 4,096
+unfoldable pub count_at : List ℕ → Reading ℕ
+count_at bytes = do
+  count ← number_at w16 bytes
+  if nat_lt 4096 count.0 then wrong bytes else Ok count
+
+-- a count, and so many items
 unfoldable pub array_at : (List ℕ → Reading Value) → List ℕ → Reading Value
 array_at item bytes = do
-  count ← number_at w16 bytes
-  if nat_lt 4096 count.0 then wrong bytes else do
-    items ← items_at item count.0 count.1
-    Ok (value.Array items.0, items.1)
+  count ← count_at bytes
+  items ← items_at item count.0 count.1
+  Ok (value.Array items.0, items.1)
 
 -- a value by its tag, where this reads an array
 unfoldable pub tagged_at : (List ℕ → Reading Value) → List ℕ → Reading Value
@@ -124,7 +131,31 @@ tagged_at array bytes = do
     else if tag.0 == 5 then (name_at tag.1 >>= λ n. Ok (value.Ref n.0, n.1))
     else wrong bytes
 
+-- whether the tag is that of an array
+abbrev pub is_array : List ℕ → Bool
+is_array [] = false
+is_array (tag ∷ rest) = tag == 4
+
 -- A value with at most so many arrays in one another. One array more is wrong at its tag.
 unfoldable pub value_at : ℕ → List ℕ → Reading Value
 value_at zero bytes = tagged_at (λ rest. wrong bytes) bytes
 value_at (suc depth) bytes = tagged_at (array_at (value_at depth)) bytes
+
+-- ---- with places
+
+-- a fault with the place of the field that is wrong
+abbrev pub placed_fault : Fault → ℕ → DecodeFault
+placed_fault Cut size = fault.Cut
+placed_fault (Bad left) size = fault.Bad (size - left)
+placed_fault Memory size = fault.Memory
+
+-- What was read and how many bytes it takes, or the fault with its place.
+abbrev pub placed : {A : Type 0} → List ℕ → Reading A → Result (A × ℕ) DecodeFault
+placed bytes (Ok x) = Ok (x.0, length bytes - length x.1)
+placed bytes (Err f) = Err (placed_fault f (length bytes))
+
+unfoldable pub decoded_value : List ℕ → Result (Value × ℕ) DecodeFault
+decoded_value bytes = placed bytes (value_at 64 bytes)
+
+unfoldable pub decoded_name : List ℕ → Result (Name × ℕ) DecodeFault
+decoded_name bytes = placed bytes (name_at bytes)

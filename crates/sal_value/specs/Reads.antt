@@ -1,5 +1,7 @@
 -- What a function that reads bytes answers: what reading gives, unless memory ran out.
 use Rattle.std.specs.Prelude.{◌≡◌, Result, Ok, Err}
+use Rattle.sal_value.specs.declared.value.DecodeFault.{DecodeFault}
+use Rattle.sal_value.specs.declared.value.DecodeFault.TheVariants as fault
 use Rattle.sal_value.specs.declared.fields.Fault.{Fault}
 use Rattle.sal_value.specs.declared.fields.Fault.TheVariants.{Cut, Bad, Memory}
 
@@ -11,3 +13,10 @@ Fails Memory read = Unit {0}
 abbrev pub Gives : {X Y : Type 0} → (X → Y) → Result X Fault → Result Y Fault → Type 0
 Gives view (Ok x) read = read ≡ Ok (view x)
 Gives view (Err e) read = Fails e read
+
+-- the same of a call whose faults have their places
+abbrev pub Decodes : {A : Type 0} → Result A DecodeFault → Result A DecodeFault → Type 0
+Decodes (Err fault.Memory) read = Unit {0}
+Decodes (Err fault.Cut) read = read ≡ Err fault.Cut
+Decodes (Err (fault.Bad place)) read = read ≡ Err (fault.Bad place)
+Decodes (Ok x) read = read ≡ Ok x

@@ -3,6 +3,7 @@
 
 mod address;
 mod boxed;
+mod decode;
 mod fields;
 mod laws;
 mod list;
