@@ -11,3 +11,4 @@ pub mod Readings
 pub mod Rooms
 pub mod Texts
 pub mod Utf8
+pub mod Writing

@@ -11,7 +11,7 @@ use Rattle.sal_value.specs.declared.name.Uan.{Uan}
 use Rattle.sal_value.specs.declared.value.Value.{Value}
 use Rattle.sal_value.specs.declared.value.Value.TheVariants as v
 use Rattle.sal_value.specs.Names.{uan_text, is_uan}
-use Rattle.sal_value.specs.Spelling.{text_bytes, name_spelling, name_is_spelled, spelling, fits, left_of, room_behind_name, room_behind}
+use Rattle.sal_value.specs.Spelling.{anon_bytes, text_bytes, name_spelling, name_is_spelled, spelling, fits, left_of, room_behind_name, room_behind}
 use Rattle.sal_value.proofs.Equations.{spelling_null, spelling_int, spelling_bool, spelling_str, spelling_ref, spelling_array, fits_null, fits_int, fits_bool, fits_str, fits_ref, fits_flat, fits_array}
 
 -- ---- one after the other
@@ -27,7 +27,7 @@ left_after false b m n room = refl
 -- ---- names
 
 pub name_anon : (t n room : ℕ) → room_behind_name (name.Anon t n) room ≡ left_of true 13 room
-unfolding room_behind_name name_is_spelled name_spelling
+unfolding room_behind_name name_is_spelled name_spelling anon_bytes
 name_anon t n room = refl
 
 pub name_outside : (n room : ℕ) → room_behind_name (name.Outside n) room ≡ left_of true 9 room

@@ -27,7 +27,7 @@ length_uan_text u =
         length-append (decimal u.port ++ 47 ∷ []) u.path, length-append (decimal u.port) (47 ∷ []), length-map u.host to_ascii_lowercase)
 
 -- a good name's host and path are short
-pub uan_bounds : (u : Uan) → is_uan u ≡ true → (length u.host ≤ 255) × (length u.path ≤ 1024)
+uan_bounds : (u : Uan) → is_uan u ≡ true → (length u.host ≤ 255) × (length u.path ≤ 1024)
 unfolding is_uan
 uan_bounds u h =
     let a = both (is_host u.host) (is_port u.port && is_uan_path (47 ∷ u.path)) h in
@@ -36,3 +36,9 @@ uan_bounds u h =
     let host : nat_le (length u.host) 255 ≡ true = (host_parts u.host a.0).1 in
     let path : nat_le (length u.path) 1024 ≡ true = (path_parts u.path c.1).0 in
     (grind (arith, nat_tests), grind (arith, nat_tests))
+
+pub host_short : (u : Uan) → is_uan u ≡ true → length u.host ≤ 255
+host_short u h = (uan_bounds u h).0
+
+pub path_short : (u : Uan) → is_uan u ≡ true → length u.path ≤ 1024
+path_short u h = (uan_bounds u h).1

@@ -1,5 +1,5 @@
 -- Values and names on bytes. Numbers have their highest byte first.
-use Rattle.std.specs.Prelude.{ℕ, zero, suc, ◌-◌, Option, Some, None, nat_le, Bool, true, false, ◌&&◌, if◌then◌else◌, List, [], ◌∷◌, ◌++◌, length}
+use Rattle.std.specs.Prelude.{◌≡◌, ℕ, zero, suc, ◌-◌, Option, Some, None, nat_le, Bool, true, false, ◌&&◌, if◌then◌else◌, List, [], ◌∷◌, ◌++◌, length}
 use Rattle.std.specs.Int.{w16, w32, w64, to_be_bytes, cast_unsigned}
 use Rattle.std.specs.List.{list_all, concat}
 use Rattle.sal_value.specs.declared.name.Name.{Name}
@@ -14,8 +14,12 @@ use Rattle.sal_value.specs.Names.{uan_text, is_uan}
 abbrev pub text_bytes : List ℕ → List ℕ
 text_bytes text = to_be_bytes w16 (length text) ++ text
 
+-- a theatre in 4 bytes and a number in 8
+unfoldable pub anon_bytes : ℕ → ℕ → List ℕ
+anon_bytes theatre number = to_be_bytes w32 theatre ++ to_be_bytes w64 number
+
 unfoldable pub name_spelling : Name → List ℕ
-name_spelling (name.Anon theatre number) = 0 ∷ (to_be_bytes w32 theatre ++ to_be_bytes w64 number)
+name_spelling (name.Anon theatre number) = 0 ∷ anon_bytes theatre number
 name_spelling (name.Uan u) = 1 ∷ text_bytes (uan_text u)
 name_spelling (name.Outside number) = 2 ∷ to_be_bytes w64 number
 
@@ -52,6 +56,11 @@ fits_step (Value-F.Ref n) depth = name_is_spelled n
 
 unfoldable pub fits : Value → ℕ → Bool
 fits = fold-Value (ℕ → Bool) fits_step
+
+-- it keeps them, however deep
+pub record FitsSomeDepth (v : Value) : Type 0 where
+  pub depth : ℕ
+  pub fits : fits v depth ≡ true
 
 -- a value has a spelling where it keeps these limits, with 64 arrays in one another
 abbrev pub is_spelled : Value → Bool

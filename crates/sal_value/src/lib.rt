@@ -4,6 +4,7 @@
 mod address;
 mod boxed;
 mod decode;
+mod encode;
 mod fields;
 mod laws;
 mod list;

@@ -30,7 +30,7 @@ impl Uan {
 
     /// The size of the canonical text.
     #[tactic(auto, using(crate::proofs::Texts::length_uan_text))]
-    fn text_len(&self) -> u32
+    pub fn text_len(&self) -> u32
         requires host { length self.now.host ≤ 255 }
         requires path { length self.now.path ≤ 1024 }
         ensures size { result ≡ length (uan_text self.now) }
@@ -52,7 +52,7 @@ impl Ual {
 }
 
 impl Name {
-    #[tactic(auto, using(crate::proofs::Rooms::name_anon, crate::proofs::Rooms::name_outside, crate::proofs::Rooms::name_uan, crate::proofs::Texts::uan_bounds))]
+    #[tactic(auto, using(crate::proofs::Rooms::name_anon, crate::proofs::Rooms::name_outside, crate::proofs::Rooms::name_uan, crate::proofs::Texts::host_short, crate::proofs::Texts::path_short))]
     fn room_behind(&self, room: u32) -> Option<u32>
         ensures { result ≡ room_behind_name self.now room }
     {
