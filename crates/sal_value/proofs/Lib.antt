@@ -9,6 +9,7 @@ pub mod Loops
 pub mod Numbers
 pub mod Readings
 pub mod Rooms
+pub mod Takes
 pub mod Texts
 pub mod Utf8
 pub mod Writing
