@@ -3,6 +3,7 @@ pub mod Canonical
 pub mod Cuts
 pub mod Decimals
 pub mod Equations
+pub mod Found
 pub mod Items
 pub mod Keys
 pub mod Loops
