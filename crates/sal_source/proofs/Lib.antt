@@ -1,3 +1,5 @@
+pub mod Counts
+pub mod Ends
 pub mod Evaluations
 pub mod Executions
 pub mod Kept

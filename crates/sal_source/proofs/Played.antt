@@ -82,3 +82,15 @@ did_yes o false new d e = absurd (cc)
 -- a step that was possible, and one that wasn't, after the first i
 pub played_on : (p : Program) (c d : Configuration) (ss : List Step) (i : ℕ) (s : Step) (o : Option Configuration) → slice_get ss i ≡ Some s → steps p c (take i ss) ≡ Some d → step p d s ≡ o → steps p c (take (i + 1) ss) ≡ o
 played_on p c d ss i s o e before one = rw add-one (steps-take p c ss i s e ∙ ap (option_and_then (λ d. step p d s)) before ∙ one)
+
+-- where a prefix of the steps has no run, all of them have none
+pub none_whole : (p : Program) (c : Configuration) (ss : List Step) (k : ℕ) → steps p c (take k ss) ≡ None → steps p c ss ≡ None
+unfolding steps
+none_whole p c ss zero e = absurd (let f : Some c ≡ None = e in cc)
+none_whole p c [] (suc k) e = e
+none_whole p c (s ∷ ss) (suc k) e = next (step p c s) (λ d. none_whole p d ss k) e
+  where
+    next : (o : Option Configuration) → ((d : Configuration) → steps p d (take k ss) ≡ None → steps p d ss ≡ None) →
+        option_and_then (λ d. steps p d (take k ss)) o ≡ None → option_and_then (λ d. steps p d ss) o ≡ None
+    next None more e = refl
+    next (Some d) more e = more d e

@@ -1,6 +1,6 @@
 -- The run of a chain of prints.
 use Rattle.std.proofs.Common.{◌≡◌, ℕ, zero, suc, ◌+◌, ◌<◌, ◌≤◌, Bool, true, false, List, [], ◌∷◌, ◌++◌, length, map, filter, not, cond, ◌&&◌, nat_eq, nat_lt, Option, Some, None, Ok, Err, refl, ap, sym, ◌∙◌, subst, arith, append_assoc, length-append, codes, if◌then◌else◌}
-use Rattle.std.proofs.lemmas.List.{append-nil}
+use Rattle.std.proofs.lemmas.List.{append-nil, length-map}
 use Rattle.std.proofs.lemmas.Bool.{lt-ltb, le-ltb, eq-eqb, ne_eqb}
 use Rattle.std.specs.Prelude.{option_and_then}
 use Rattle.std.specs.List.{list_all}
@@ -36,6 +36,8 @@ use Rattle.sal_source.proofs.Played.{ready, met_done}
 use Rattle.sal_source.specs.Step as s
 use Rattle.sal_source.specs.Run.{steps}
 use Rattle.sal_source.specs.Prints.{Print, Outline, argument_of, stage_of, body_of, program_of, string_in, line_of, lines_of, IsShort, AreShort, print_steps, trace, Runs}
+use Rattle.sal_source.specs.Stages.{count_at, body_count, print_count}
+use Rattle.sal_source.proofs.Counts.{count-Chain}
 use Rattle.sal_source.proofs.Evaluations.{eval-Str}
 use Rattle.sal_source.proofs.Executions.{exec-Chain, stage-Message}
 use Rattle.sal_source.proofs.Tables.{words_refl, same_words, words_apart, same_table, get-write, get-table_of, table-each}
@@ -257,9 +259,17 @@ no_step o n number output (step.Handle maker serial []) = rw (none_left (made_ke
 no_step o n number output (step.Handle maker serial (name ∷ names)) = refl
 no_step o n number output (step.Print maker serial) = rw (none_left (made_key maker serial)) refl
 
+counted : (o : Outline) → print_count (program_of o) ≡ length o.prints
+counted o = ap (count_at (program_of o)) (start_is o) ∙ counted_body o.prints
+  where
+    counted_body : (ps : List Print) → body_count (Some (body_of ps)) ≡ length ps
+    counted_body [] = refl
+    counted_body (p ∷ ps) = count-Chain (record { stages = map stage_of (p ∷ ps) }) None ∙ length-map (p ∷ ps) stage_of
+
 pub runs : (o : Outline) (setup : Setup) → length o.prints ≤ 1024 → AreShort o.prints → Runs o setup
 unfolding steps
 runs o setup few short = record {
+  count = counted o;
   end = at (length o.prints) (0 + length o.prints) [] (lines_of o.prints);
   is_run =
       ap (λ f. steps (program_of o) (first_of setup.words f) (trace (length o.prints))) (start_is o)

@@ -6,6 +6,7 @@ pub mod Configuration
 pub mod Give
 pub mod Step
 pub mod Run
+pub mod Stages
 pub mod Prints
 pub mod Listed
 pub mod Changes

@@ -25,6 +25,7 @@ use Rattle.sal_source.specs.declared.state.Step.{Step}
 use Rattle.sal_source.specs.declared.state.Step.TheVariants as step
 use Rattle.sal_source.specs.Configuration.{Configuration}
 use Rattle.sal_source.specs.Step.{IsFinal}
+use Rattle.sal_source.specs.Stages.{print_count}
 use Rattle.sal_source.specs.Run.{play}
 
 -- a stage: the byte of `standardOutput`, `print` or `println` with its byte, and perhaps a string
@@ -101,6 +102,7 @@ trace n = step.Handle (Outside 0) 0 [] ∷ print_steps 0 n
 -- The trace of the program is a run from the first configuration. It ends with exactly the texts of
 -- the stages, without faults and answers, where no step is possible.
 pub record Runs (o : Outline) (setup : Setup) : Type 0 where
+  pub count : print_count (program_of o) ≡ length o.prints
   pub end : Configuration
   pub is_run : play (program_of o) setup (trace (length o.prints)) ≡ Some end
   pub output : end.output ≡ lines_of o.prints

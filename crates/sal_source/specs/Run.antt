@@ -16,12 +16,13 @@ steps p c (s ∷ ss) = option_and_then (λ d. steps p d ss) (step p c s)
 abbrev pub play : Program → Setup → List Step → Option Configuration
 play p setup ss = steps p (first p setup) ss
 
--- the first i steps are possible, and the next one isn't
+-- the first i steps are possible, and the next one isn't; so the steps have no run
 pub record IsFirstBad (p : Program) (setup : Setup) (ss : List Step) (i : ℕ) : Type 0 where
   pub before : Configuration
   pub within : i < length ss
   pub good : play p setup (take i ss) ≡ Some before
   pub bad : play p setup (take (suc i) ss) ≡ None
+  pub whole : play p setup ss ≡ None
 
 -- what playing the steps answers
 abbrev pub Plays : Program → Setup → List Step → Result Configuration PlayFault → Type 0

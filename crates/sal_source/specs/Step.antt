@@ -1,5 +1,5 @@
 -- One step: which are possible, and what they change.
-use Rattle.std.specs.Prelude.{◌≡◌, ℕ, Bool, true, false, nat_eq, cond, List, [], ◌∷◌, ◌++◌, Option, Some, None, if◌then◌else◌}
+use Rattle.std.specs.Prelude.{◌≡◌, ℕ, Bool, true, false, nat_eq, cond, ◌&&◌, is_some, List, [], ◌∷◌, ◌++◌, Option, Some, None, if◌then◌else◌}
 use Rattle.std.specs.FinMap as fm
 use Rattle.sal_value.specs.declared.name.Name.{Name}
 use Rattle.sal_value.specs.declared.value.Value.{Value}
@@ -134,3 +134,17 @@ step p c (Print maker serial) = print_step maker serial c
 -- no step is possible
 abbrev pub IsFinal : Program → Configuration → Type 0
 IsFinal p c = (s : Step) → step p c s ≡ None
+
+-- ---- whether a step is possible, whatever the program
+
+abbrev pub has_taker : Target → Configuration → Bool
+has_taker target.Output c = true
+has_taker (target.Actor name) c = is_some (fm.get c.actors (name_key name))
+
+-- the message is ready, and there is an actor for it, or it goes to the output
+abbrev pub is_possible : Configuration → Message → Bool
+is_possible c m = is_ready m && has_taker m.target c
+
+-- no step is possible for any program
+abbrev pub IsAtEnd : Configuration → Type 0
+IsAtEnd c = (p : Program) → IsFinal p c

@@ -1,6 +1,6 @@
 //! Configurations, kept as lists.
 
-ghost use Rattle.std.specs.Prelude.{◌≡◌, OnOk};
+ghost use Rattle.std.specs.Prelude.{◌≡◌, ◌↔◌, IsTrue, OnOk};
 ghost use Rattle.std.specs.Option.{option_copied};
 ghost use Rattle.std.specs.FinMap as fm;
 ghost use Rattle.sal_source.specs.Keys.{name_key};
@@ -12,7 +12,7 @@ ghost use Rattle.sal_source.specs.Configuration.{actor_key};
 ghost use Rattle.sal_source.specs.Changes.{Takes, SetsActor, untold};
 
 use crate::{actors, messages};
-use sal_mail::{Actor, Fault, FaultKind, Message, Reply};
+use sal_mail::{Actor, Fault, FaultKind, Message, Reply, Target};
 use sal_value::{List, Name, NoMemory, Text, Value, Values};
 use std::alloc::Global;
 use std::marker::Model;
@@ -109,6 +109,33 @@ impl Config {
         ensures { result ≡ (fm.len self.now.messages, 0, 0) }
     {
         (self.messages.len(), 0, 0)
+    }
+
+    fn has_taker(&self, to: &Target) -> bool
+        ensures { result ≡ step.has_taker to.now self.now }
+    {
+        match to {
+            Target::Output => true,
+            Target::Actor(name) => self.actor(name).is_some(),
+        }
+    }
+
+    fn is_possible(&self, message: &Message) -> bool
+        ensures { result ≡ step.is_possible self.now message.now }
+    {
+        messages::is_ready(message) && self.has_taker(&message.target)
+    }
+
+    /// Whether no step is possible, whatever the program.
+    pub fn is_final(&self) -> bool
+        ensures { IsTrue result ↔ step.IsAtEnd self.now }
+    {
+        for message in self.messages.as_slice() {
+            if self.is_possible(message) {
+                return false;
+            }
+        }
+        true
     }
 
     /// Takes out the pending message with this maker and number, where it is ready.

@@ -9,9 +9,11 @@ mod messages;
 mod player;
 mod start;
 mod state;
+mod trace;
 mod turn;
 
 pub use config::Config;
 pub use law::chains_of_prints_run;
 pub use player::play;
+pub use trace::trace_of;
 pub use state::{Outcome, PlayFault, Setup, Step};

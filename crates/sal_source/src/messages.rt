@@ -75,7 +75,7 @@ fn is_none_left(numbers: &[u64]) -> bool
     }
 }
 
-fn is_ready(message: &Message) -> bool
+pub fn is_ready(message: &Message) -> bool
     ensures { result ≡ is_ready message.now }
 {
     are_known(message.args.as_slice()) && is_none_left(message.after.as_slice())

@@ -8,3 +8,4 @@ mod Strings
 mod Takes
 mod Texts
 mod Whole
+pub mod Judging

@@ -1,9 +1,9 @@
-use Rattle.std.proofs.Common.{◌≡◌, ◌+◌, suc, take, None, Some, true, false, not, ap, sym, ◌∙◌, add-one, subst, ℕ}
+use Rattle.std.proofs.Common.{rules, ◌≡◌, ◌+◌, suc, take, None, Some, true, false, not, ap, sym, ◌∙◌, add-one, subst, ℕ}
 use Rattle.sal_source.specs.Configuration.{first}
 use Rattle.sal_source.specs.Run.{steps, play}
 use Rattle.sal_source.specs.Step.{step}
 use Rattle.sal_source.proofs.Tables.{slice_get_is}
-use Rattle.sal_source.proofs.Played.{did_no, did_yes, played_on}
+use Rattle.sal_source.proofs.Played.{did_no, did_yes, played_on, none_whole}
 use Rattle.sal_source.proofs.player.play.Goals as goal
 
 pub loop-i-init : goal.loop-i-init
@@ -11,16 +11,18 @@ unfolding steps
 loop-i-init c = ap (λ d. Some d) (sym c.in_ok-config.ensures)
 
 pub returns-then-not-branch : goal.returns-then-not-branch
-returns-then-not-branch c = record {
-  before = c.loop-i.config;
-  within = c.loop-i-test.true;
-  good = c.loop-i.invariant;
-  bad =
-      rw (← add-one)
-      (played_on c.args.program.now (first c.args.program.now c.args.setup.now) c.loop-i.config c.args.steps.now c.loop-i.i c.index-steps-i.result None
-      (slice_get_is c.args.steps.now c.loop-i.i c.index-steps-i.result c.loop-i-test.true c.index-steps-i.is) c.loop-i.invariant
-      (did_no (step c.args.program.now c.loop-i.config c.index-steps-i.result) c.in_ok-step.field-0 c.step.new.config c.in_ok-step.ensures (search rules)));
-}
+returns-then-not-branch c =
+    let gone : play c.args.program.now c.args.setup.now (take (c.loop-i.i + 1) c.args.steps.now) ≡ None =
+    played_on c.args.program.now (first c.args.program.now c.args.setup.now) c.loop-i.config c.args.steps.now c.loop-i.i c.index-steps-i.result None
+    (slice_get_is c.args.steps.now c.loop-i.i c.index-steps-i.result c.loop-i-test.true c.index-steps-i.is) c.loop-i.invariant
+    (did_no (step c.args.program.now c.loop-i.config c.index-steps-i.result) c.in_ok-step.field-0 c.step.new.config c.in_ok-step.ensures (search rules)) in
+    record {
+      before = c.loop-i.config;
+      within = c.loop-i-test.true;
+      good = c.loop-i.invariant;
+      bad = rw (← add-one) gone;
+      whole = none_whole c.args.program.now (first c.args.program.now c.args.setup.now) c.args.steps.now (c.loop-i.i + 1) gone;
+    }
 
 pub loop-i-preserved : goal.loop-i-preserved
 loop-i-preserved c =

@@ -1,0 +1,68 @@
+//! The top call.
+ghost use Rattle.std.specs.Prelude.{◌≡◌, ◌≢◌, None};
+ghost use Rattle.salsa.specs.Top.{run_name, status_line, OnRunName, Puts, RunCause, Usage};
+
+use crate::judge::judged;
+use crate::outside::{Failed, Files, OutsideFault, Sink};
+use sal_value::{NoMemory, Text};
+use std::alloc::Global;
+
+/// One byte more than a program may have, which tells a program that is too long.
+const READ: usize = 262_145;
+
+/// Puts the bytes into the sink, and answers the status, or 6 where the sink failed.
+fn put<S: Sink>(sink: &mut S, bytes: &[u8], status: u8) -> u8
+    requires { status ≢ 6 }
+    ensures { Puts status bytes.now result (S.faults sink.old) (S.faults sink.new) (S.taken sink.old) (S.taken sink.new) }
+{
+    match sink.put(bytes) {
+        Ok(()) => status,
+        Err(Failed) => 6,
+    }
+}
+
+fn run<F: Files, O: Sink, E: Sink>(
+    alloc: Global,
+    name: &Text,
+    files: &mut F,
+    out: &mut O,
+    err: &mut E,
+) -> u8
+    ensures cause { RunCause result (F.held files.old) name.now (F.faults files.old name.now) (F.faults files.new name.now) (O.faults out.old) (O.faults out.new) (E.faults err.old) (E.faults err.new) (O.taken out.old) (O.taken out.new) (E.taken err.old) (E.taken err.new) }
+    ensures files { F.held files.new ≡ F.held files.old }
+{
+    let bytes = match files.read(alloc, name, READ) {
+        Ok(bytes) => bytes,
+        Err(OutsideFault::Failed) => return put(err, b"file fault\n", 5),
+        Err(OutsideFault::Memory) => return put(err, b"no memory\n", 7),
+    };
+    match judged(alloc, bytes.as_slice()) {
+        Ok(Some(output)) => put(out, output.as_slice(), 0),
+        Ok(None) => put(err, b"refused form\n", 2),
+        Err(NoMemory) => put(err, b"no memory\n", 7),
+    }
+}
+
+/// Runs a command, and answers its status. The words are those after the program's name.
+pub fn salsa<F: Files, O: Sink, E: Sink>(
+    alloc: Global,
+    words: &[Text],
+    files: &mut F,
+    out: &mut O,
+    err: &mut E,
+) -> u8
+    ensures usage { run_name words.now ≡ None → Usage result (E.faults err.old) (E.faults err.new) (O.taken out.old) (O.taken out.new) (E.taken err.old) (E.taken err.new) }
+    ensures run { OnRunName (run_name words.now) (λ name. RunCause result (F.held files.old) name (F.faults files.old name) (F.faults files.new name) (O.faults out.old) (O.faults out.new) (E.faults err.old) (E.faults err.new) (O.taken out.old) (O.taken out.new) (E.taken err.old) (E.taken err.new)) }
+    ensures files { F.held files.new ≡ F.held files.old }
+{
+    match words {
+        [command, name] => {
+            if command.as_str() == "run" {
+                run(alloc, name, files, out, err)
+            } else {
+                put(err, b"usage\n", 1)
+            }
+        }
+        _ => put(err, b"usage\n", 1),
+    }
+}
