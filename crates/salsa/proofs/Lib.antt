@@ -9,3 +9,4 @@ mod Takes
 mod Texts
 mod Whole
 pub mod Judging
+mod Causes

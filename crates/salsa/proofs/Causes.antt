@@ -1,0 +1,62 @@
+-- Why a run has its status.
+use Rattle.std.proofs.Common.{◌≡◌, ℕ, List, [], Option, Some, None, inl, inr, refl, arith, subst, sym, ◌∙◌, take}
+use Rattle.sal_ast.specs.declared.program.Program.{Program}
+use Rattle.salsa.specs.Form.{Spells}
+use Rattle.salsa.specs.Outside.{Held, OnFile, Rose}
+use Rattle.salsa.specs.Top.{Ran, Judged, Puts, RunCause, status_line}
+use Rattle.salsa.proofs.Judging.{judged_first, on_file}
+
+module _ (status : ℕ) (held : Option Held) (name : List ℕ) (f g o p e d : ℕ) (oo on eo en : Option (List ℕ)) where
+  pub fault_cause : Rose f g → Puts 5 (status_line 5) status e d eo en → on ≡ oo → RunCause status held name f g o p e d oo on eo en
+  fault_cause rose puts same = record {
+    wanted = 5;
+    known = inr (inr (inl refl));
+    output = [];
+    ran = λ w. absurd (omega arith);
+    refused = λ w. absurd (omega arith);
+    file_fault = λ _. rose;
+    printed = λ w. absurd (omega arith);
+    told = λ _. (puts, same);
+  }
+
+  pub memory_cause : Puts 7 (status_line 7) status e d eo en → on ≡ oo → RunCause status held name f g o p e d oo on eo en
+  memory_cause puts same = record {
+    wanted = 7;
+    known = inr (inr (inr refl));
+    output = [];
+    ran = λ w. absurd (omega arith);
+    refused = λ w. absurd (omega arith);
+    file_fault = λ w. absurd (omega arith);
+    printed = λ w. absurd (omega arith);
+    told = λ _. (puts, same);
+  }
+
+  pub refused_cause : OnFile held name (λ whole. (program : Program) → Spells whole program → ⊥) → Puts 2 (status_line 2) status e d eo en → on ≡ oo → RunCause status held name f g o p e d oo on eo en
+  refused_cause none puts same = record {
+    wanted = 2;
+    known = inr (inl refl);
+    output = [];
+    ran = λ w. absurd (omega arith);
+    refused = λ _. none;
+    file_fault = λ w. absurd (omega arith);
+    printed = λ w. absurd (omega arith);
+    told = λ _. (puts, same);
+  }
+
+  pub ran_cause : (output : List ℕ) → OnFile held name (λ whole. Ran whole output) → Puts 0 output status o p oo on → en ≡ eo → RunCause status held name f g o p e d oo on eo en
+  ran_cause output ran puts same = record {
+    wanted = 0;
+    known = inl refl;
+    output = output;
+    ran = λ _. ran;
+    refused = λ w. absurd (omega arith);
+    file_fault = λ w. absurd (omega arith);
+    printed = λ _. (puts, same);
+    told = λ w. absurd (w refl);
+  }
+
+-- what judging the first bytes of a file says of the whole
+pub on_whole : (held : Option Held) (name bytes text : List ℕ) (o : Option (List ℕ)) → OnFile held name (λ whole. bytes ≡ take 262145 whole) → text ≡ bytes → Judged text o → OnFile held name (λ whole. Judged whole o)
+on_whole held name bytes text o file same j =
+    let P : List ℕ → Type 0 = λ t. Judged t o in
+    on_file held name (λ whole. bytes ≡ take 262145 whole) (λ whole. Judged whole o) (λ whole e. judged_first whole o (subst P (same ∙ e) j)) file
