@@ -1,5 +1,6 @@
 //! Laws of the definitions: functions without work, whose contracts are the laws.
 
+ghost use Rattle.sal_value.specs.Coding.{NamesAreDecoded, ValuesAreDecoded};
 ghost use Rattle.sal_value.specs.Names.{NamesAreRead, LocatorsAreRead};
 ghost use Rattle.sal_value.specs.Order.{KeysTellNames};
 
@@ -18,5 +19,17 @@ pub fn names_are_read()
 /// The same of locators.
 pub fn locators_are_read()
     ensures { LocatorsAreRead }
+{
+}
+
+/// What is decoded is spelled by the bytes that were read, and what is spelled is decoded.
+pub fn values_are_decoded()
+    ensures { ValuesAreDecoded }
+{
+}
+
+/// The same of names.
+pub fn names_are_decoded()
+    ensures { NamesAreDecoded }
 {
 }
