@@ -21,3 +21,6 @@ pub use list::List;
 pub use name::{Authority, Name, NameFault, Ual, Uan};
 pub use text::{NoMemory, Text};
 pub use value::{Base, DecodeFault, Sort, Value, Values};
+
+#[cfg(test)]
+mod tests;
