@@ -155,7 +155,7 @@ array_again d again ws rest r few f =
     let most = at_most (length ws) 4096 few in
     ap (array_at (value_at d)) (append_assoc (to_be_bytes w16 (length ws)) (flat_map spelling ws) rest)
     ∙ ap (λ (x : Reading ℕ). (x >>= λ count. if nat_lt 4096 count.0 then wrong bytes else Ok count) >>= λ count. items_at (value_at d) count.0 count.1 >>= λ items. Ok (v.Array items.0, items.1))
-        (number_again w16 (2 ^ 16) wide16 (length ws) items (omega arith))
+    (number_again w16 (2 ^ 16) wide16 (length ws) items (omega arith))
     ∙ ap (λ b. (if b then wrong bytes else Ok (length ws, items)) >>= λ count. items_at (value_at d) count.0 count.1 >>= λ items. Ok (v.Array items.0, items.1)) (not_above (length ws) 4096 most)
     ∙ ap (λ (x : Reading (List Value)). x >>= λ items. Ok (v.Array items.0, items.1)) (items_again d again ws rest r f)
 
@@ -190,9 +190,9 @@ value_again zero w rest r f =
     each_again (λ all rest. wrong all) 0 (λ ws rest r f. let no' : fits (v.Array ws) 0 ≡ false = fits_flat ws in absurd cc) w rest r f
 value_again (suc d) w rest r f =
     each_again (λ all. array_at (value_at d)) (suc d) (λ ws rest r f.
-        let parts = both (nat_le (length ws) 4096) (list_all (λ x. fits x d) ws) (sym (fits_array ws d) ∙ f) in
-        at (array_at (value_at d)) (v.Array ws) (4 ∷ (to_be_bytes w16 (length ws) ++ flat_map spelling ws)) rest (spelling_array ws)
-        (array_again d (value_again d) ws rest (sym (range_array ws) ∙ r) parts.0 parts.1)) w rest r f
+    let parts = both (nat_le (length ws) 4096) (list_all (λ x. fits x d) ws) (sym (fits_array ws d) ∙ f) in
+    at (array_at (value_at d)) (v.Array ws) (4 ∷ (to_be_bytes w16 (length ws) ++ flat_map spelling ws)) rest (spelling_array ws)
+    (array_again d (value_again d) ws rest (sym (range_array ws) ∙ r) parts.0 parts.1)) w rest r f
 
 -- ---- with places
 

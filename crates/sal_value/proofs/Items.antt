@@ -81,7 +81,7 @@ pub goes_on : (item : List ℕ → Reading Value) (front : List Value) (count i 
 goes_on item front count i bytes x after all lt h so_far =
     let read : Reading (List Value) = items_at item (count - (i + 1)) after in
     let one : arrayed front (items_at item (count - i) bytes) ≡ arrayed front (read >>= λ others. Ok (x ∷ others.0, others.1)) =
-        one_more item front count i bytes lt ∙ ap (λ (r : Reading Value). arrayed front (r >>= λ first. items_at item (count - (i + 1)) first.1 >>= λ others. Ok (first.0 ∷ others.0, others.1))) h in
+    one_more item front count i bytes lt ∙ ap (λ (r : Reading Value). arrayed front (r >>= λ first. items_at item (count - (i + 1)) first.1 >>= λ others. Ok (first.0 ∷ others.0, others.1))) h in
     sym (regroup front x read) ∙ sym one ∙ so_far
 
 pub ends : (item : List ℕ → Reading Value) (f : Fault) (front : List Value) (count i : ℕ) (bytes : List ℕ) (all : Reading Value) → i < count → Fails f (item bytes)

@@ -92,7 +92,7 @@ unfolding key
 cmp_uans u v =
     cmp_closed (uan_text u) (uan_text v) (closed u.host ++ u.port ∷ []) (closed v.host ++ v.port ∷ [])
     ∙ ap (ordering_then (slice_cmp nat_cmp (uan_text u) (uan_text v)))
-        (cmp_closed u.host v.host (u.port ∷ []) (v.port ∷ []) ∙ ap (ordering_then (slice_cmp nat_cmp u.host v.host)) (then_equal (nat_cmp u.port v.port)))
+    (cmp_closed u.host v.host (u.port ∷ []) (v.port ∷ []) ∙ ap (ordering_then (slice_cmp nat_cmp u.host v.host)) (then_equal (nat_cmp u.port v.port)))
 
 -- what a test of equal names answers
 pub key_decides : (a b : Name) → Decides (bytes_eq (key a) (key b)) (a ≡ b)

@@ -147,7 +147,7 @@ again scheme host port path low good number slash =
       host_ends = host_inside host bytes;
       port_begins = refl;
       port_ends = (refl, digits_inside (decimal port) (decimal_is_IsNumeral port (omega (arith, range.1))).0.1);
-      path_begins = slash
+      path_begins = slash;
     }
 
 written_again : (kind : Kind) (host : List ℕ) (port : ℕ) (path : List ℕ) → lowered kind.scheme ≡ kind.scheme → is_host host ≡ true → is_port port ≡ true → FirstPasses is_slash path → kind.path path ≡ true
@@ -155,14 +155,16 @@ written_again : (kind : Kind) (host : List ℕ) (port : ℕ) (path : List ℕ) �
 written_again kind host port path low good number slash is =
     let bytes = (host_parts host good).2 in
     let range = port_range port number in
-    let stays = host_stays host bytes in
-    (record {
-      port = 58 ∷ decimal port;
-      parts = again kind.scheme host port path low good number slash;
-      is_host = ap is_host stays ∙ good;
-      is_port = (refl, range.0, range.1);
-      is_path = is
-    }, sym stays)
+    let stays = host_stays host bytes in (
+      record {
+        port = 58 ∷ decimal port;
+        parts = again kind.scheme host port path low good number slash;
+        is_host = ap is_host stays ∙ good;
+        is_port = (refl, range.0, range.1);
+        is_path = is;
+      },
+      sym stays,
+    )
 
 name_again : (u : Uan) → is_uan u ≡ true → ReadsUan (uan_text u) (Ok u)
 unfolding is_uan uan_text
@@ -202,7 +204,7 @@ names_are_read = record {
   given = good_name;
   again = name_again;
   one = one_name;
-  sure = λ text u f a r. written_sure name_kind text a.0 u.port (47 ∷ u.path) f a.1 r
+  sure = λ text u f a r. written_sure name_kind text a.0 u.port (47 ∷ u.path) f a.1 r;
 }
 
 pub locators_are_read : LocatorsAreRead
@@ -210,5 +212,5 @@ locators_are_read = record {
   given = good_locator;
   again = locator_again;
   one = one_locator;
-  sure = λ text l f a r. written_sure locator_kind text a.0 l.port a.1 f a.2 r
+  sure = λ text l f a r. written_sure locator_kind text a.0 l.port a.1 f a.2 r;
 }

@@ -11,7 +11,8 @@ use Rattle.sal_value.specs.declared.name.Uan.{Uan}
 use Rattle.sal_value.specs.declared.value.Value.{Value}
 use Rattle.sal_value.specs.declared.value.Value.TheVariants as v
 use Rattle.sal_value.specs.Names.{uan_text, is_uan}
-use Rattle.sal_value.specs.Spelling.{anon_bytes, text_bytes, name_spelling, name_is_spelled, spelling, fits, left_of, room_behind_name, room_behind}
+use Rattle.sal_value.specs.Spelling.{anon_bytes, text_bytes, name_spelling, name_is_spelled, spelling, fits, left_of, room_behind_name, room_behind, is_legal, is_spelled}
+use Rattle.sal_value.proofs.Bytes.{both}
 use Rattle.sal_value.proofs.Equations.{spelling_null, spelling_int, spelling_bool, spelling_str, spelling_ref, spelling_array, fits_null, fits_int, fits_bool, fits_str, fits_ref, fits_flat, fits_array}
 
 -- ---- one after the other
@@ -115,15 +116,15 @@ array_room w items xs d room left is same low short head =
     let up : d ≡ suc (d - 1) = omega arith in
     ap (λ (ys : List Value). rooms (d - 1) ys left) same
     ∙ sym (ap (λ y. room_behind y d room) is ∙ ap (λ k. room_behind (v.Array items) k room) up ∙ room_items items (d - 1) room
-        ∙ ap (λ b. option_and_then (rooms (d - 1) items) (left_of b 3 room)) (le_true (length items) 4096 short)
-        ∙ ap (option_and_then (rooms (d - 1) items)) head)
+    ∙ ap (λ b. option_and_then (rooms (d - 1) items) (left_of b 3 room)) (le_true (length items) 4096 short)
+    ∙ ap (option_and_then (rooms (d - 1) items)) head)
 
 pub no_room : (w : Value) (items : List Value) (d room : ℕ) → w ≡ v.Array items → 0 < d → length items ≤ 4096 → left_of true 3 room ≡ None → None ≡ room_behind w d room
 no_room w items d room is low short head =
     let up : d ≡ suc (d - 1) = omega arith in
     sym (ap (λ y. room_behind y d room) is ∙ ap (λ k. room_behind (v.Array items) k room) up ∙ room_items items (d - 1) room
-        ∙ ap (λ b. option_and_then (rooms (d - 1) items) (left_of b 3 room)) (le_true (length items) 4096 short)
-        ∙ ap (option_and_then (rooms (d - 1) items)) head)
+    ∙ ap (λ b. option_and_then (rooms (d - 1) items) (left_of b 3 room)) (le_true (length items) 4096 short)
+    ∙ ap (option_and_then (rooms (d - 1) items)) head)
 
 rooms_at : (d : ℕ) (xs : List Value) (i : ℕ) (x : Value) (left : ℕ) → i < length xs → x ≡ get_or xs i x → rooms d (drop i xs) left ≡ option_and_then (rooms d (drop (i + 1) xs)) (room_behind x d left)
 rooms_at d xs i x left lt is =
@@ -142,3 +143,8 @@ pub rooms_end : (d : ℕ) (xs : List Value) (i left : ℕ) (all : Option ℕ) �
 rooms_end d xs i left all le before =
     let none : rooms d (drop i xs) left ≡ Some left = at_drop_all (λ (ys : List Value). rooms d ys left) xs i le in
     sym none ∙ before
+
+-- a legal value has a spelling
+pub legal_spelled : (w : Value) → is_legal w ≡ true → is_spelled w ≡ true
+unfolding is_legal
+legal_spelled w h = (both (is_spelled w) (nat_le (length (spelling w)) 65536) h).0

@@ -67,11 +67,14 @@ bytes_taken n bytes t rest fits e =
     let long : n ≤ length bytes = ltb-false _ _ g.0 in
     let same = ok_is (take n bytes, drop n bytes) (t, rest) g.1 in
     let t-is : take n bytes ≡ t = ap (λ (p : List ℕ × List ℕ). p.0) same in
-    let rest-is : drop n bytes ≡ rest = ap (λ (p : List ℕ × List ℕ). p.1) same in
-    (record {
-      parts = sym (take-append-drop n bytes) ∙ ap (λ (z : List ℕ). z ++ drop n bytes) t-is ∙ ap (λ (z : List ℕ). t ++ z) rest-is;
-      rest_fits = subst IsBytes rest-is (bytes_drop n bytes fits)
-    }, omega (arith, length-take n bytes, ap length t-is), subst IsBytes t-is (bytes_take n bytes fits))
+    let rest-is : drop n bytes ≡ rest = ap (λ (p : List ℕ × List ℕ). p.1) same in (
+      record {
+        parts = sym (take-append-drop n bytes) ∙ ap (λ (z : List ℕ). z ++ drop n bytes) t-is ∙ ap (λ (z : List ℕ). t ++ z) rest-is;
+        rest_fits = subst IsBytes rest-is (bytes_drop n bytes fits);
+      },
+      omega (arith, length-take n bytes, ap length t-is),
+      subst IsBytes t-is (bytes_take n bytes fits),
+    )
 
 pub bytes_again : (n : ℕ) (t rest : List ℕ) → length t ≡ n → bytes_at n (t ++ rest) ≡ Ok (t, rest)
 unfolding bytes_at

@@ -23,8 +23,14 @@ cmp_texts u v p q ep eq = rw (ep, eq, uan_parts u, uan_parts v) refl
 
 pub length_uan_text : (u : Uan) → length (uan_text u) ≡ 8 + length u.host + length (decimal u.port) + length u.path
 length_uan_text u =
-    omega (arith, ap length (uan_parts u), length-append (lowered u.host) (58 ∷ (decimal u.port ++ 47 ∷ []) ++ u.path),
-        length-append (decimal u.port ++ 47 ∷ []) u.path, length-append (decimal u.port) (47 ∷ []), length-map u.host to_ascii_lowercase)
+    omega (
+      arith,
+      ap length (uan_parts u),
+      length-append (lowered u.host) (58 ∷ (decimal u.port ++ 47 ∷ []) ++ u.path),
+      length-append (decimal u.port ++ 47 ∷ []) u.path,
+      length-append (decimal u.port) (47 ∷ []),
+      length-map u.host to_ascii_lowercase,
+    )
 
 -- a good name's host and path are short
 uan_bounds : (u : Uan) → is_uan u ≡ true → (length u.host ≤ 255) × (length u.path ≤ 1024)

@@ -41,13 +41,13 @@ IsBytes bytes = (i : ℕ) → slice_index bytes i < 256
 -- What is decoded has a spelling, and it is the bytes that were read. A spelling is decoded, whatever follows it.
 pub record ValuesAreDecoded : Type 0 where
   pub found : (bytes : List ℕ) (v : Value) (n : ℕ) → IsBytes bytes → decoded_value bytes ≡ Ok (v, n)
-    → IsTrue (is_spelled v) × (n ≤ length bytes) × (take n bytes ≡ spelling v)
+      → IsTrue (is_spelled v) × (n ≤ length bytes) × (take n bytes ≡ spelling v)
   pub again : (v : Value) (rest : List ℕ) → IsTrue (in_range v) → IsTrue (is_spelled v)
-    → decoded_value (spelling v ++ rest) ≡ Ok (v, length (spelling v))
+      → decoded_value (spelling v ++ rest) ≡ Ok (v, length (spelling v))
 
 -- the same of names
 pub record NamesAreDecoded : Type 0 where
   pub found : (bytes : List ℕ) (n : Name) (k : ℕ) → IsBytes bytes → decoded_name bytes ≡ Ok (n, k)
-    → IsTrue (name_is_spelled n) × (k ≤ length bytes) × (take k bytes ≡ name_spelling n)
+      → IsTrue (name_is_spelled n) × (k ≤ length bytes) × (take k bytes ≡ name_spelling n)
   pub again : (n : Name) (rest : List ℕ) → IsTrue (name_in_range n) → IsTrue (name_is_spelled n)
-    → decoded_name (name_spelling n ++ rest) ≡ Ok (n, length (name_spelling n))
+      → decoded_name (name_spelling n ++ rest) ≡ Ok (n, length (name_spelling n))

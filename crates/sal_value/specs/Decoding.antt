@@ -92,9 +92,9 @@ unfoldable pub name_at : List ℕ → Reading Name
 name_at bytes = do
   tag ← byte_at bytes
   if tag.0 == 0 then anon_at tag.1
-    else if tag.0 == 1 then (uan_at tag.1 >>= λ u. Ok (name.Uan u.0, u.1))
-    else if tag.0 == 2 then (number_at w64 tag.1 >>= λ n. Ok (name.Outside n.0, n.1))
-    else wrong bytes
+      else if tag.0 == 1 then (uan_at tag.1 >>= λ u. Ok (name.Uan u.0, u.1))
+      else if tag.0 == 2 then (number_at w64 tag.1 >>= λ n. Ok (name.Outside n.0, n.1))
+      else wrong bytes
 
 -- ---- values
 
@@ -124,12 +124,12 @@ unfoldable pub tagged_at : (List ℕ → Reading Value) → List ℕ → Reading
 tagged_at array bytes = do
   tag ← byte_at bytes
   if tag.0 == 0 then Ok (value.Null, tag.1)
-    else if tag.0 == 1 then (number_at w32 tag.1 >>= λ n. Ok (value.Int (cast_signed w32 n.0), n.1))
-    else if tag.0 == 2 then (bool_at tag.1 >>= λ b. Ok (value.Bool b.0, b.1))
-    else if tag.0 == 3 then (text_at tag.1 >>= λ t. Ok (value.Str t.0, t.1))
-    else if tag.0 == 4 then array tag.1
-    else if tag.0 == 5 then (name_at tag.1 >>= λ n. Ok (value.Ref n.0, n.1))
-    else wrong bytes
+      else if tag.0 == 1 then (number_at w32 tag.1 >>= λ n. Ok (value.Int (cast_signed w32 n.0), n.1))
+      else if tag.0 == 2 then (bool_at tag.1 >>= λ b. Ok (value.Bool b.0, b.1))
+      else if tag.0 == 3 then (text_at tag.1 >>= λ t. Ok (value.Str t.0, t.1))
+      else if tag.0 == 4 then array tag.1
+      else if tag.0 == 5 then (name_at tag.1 >>= λ n. Ok (value.Ref n.0, n.1))
+      else wrong bytes
 
 -- whether the tag is that of an array
 abbrev pub is_array : List ℕ → Bool

@@ -50,5 +50,8 @@ pub fn between(port: u16) -> ([u8; 7], usize)
     if port < 10000 {
         return ([0, b':', thousands, hundreds, tens, ones, b'/'], 1);
     }
-    ([b':', ten_thousands, thousands, hundreds, tens, ones, b'/'], 0)
+    (
+        [b':', ten_thousands, thousands, hundreds, tens, ones, b'/'],
+        0,
+    )
 }

@@ -7,29 +7,24 @@ ghost use Rattle.sal_value.specs.Order.{KeysTellNames};
 /// A map by keys is a map from names.
 pub fn keys_tell_names()
     ensures { KeysTellNames }
-{
-}
+{}
 
 /// Good names are those that reading gives, and each is read again from its text.
 pub fn names_are_read()
     ensures { NamesAreRead }
-{
-}
+{}
 
 /// The same of locators.
 pub fn locators_are_read()
     ensures { LocatorsAreRead }
-{
-}
+{}
 
 /// What is decoded is spelled by the bytes that were read, and what is spelled is decoded.
 pub fn values_are_decoded()
     ensures { ValuesAreDecoded }
-{
-}
+{}
 
 /// The same of names.
 pub fn names_are_decoded()
     ensures { NamesAreDecoded }
-{
-}
+{}

@@ -16,7 +16,9 @@ mod text;
 mod value;
 
 pub use boxed::Boxed;
-pub use laws::{keys_tell_names, locators_are_read, names_are_decoded, names_are_read, values_are_decoded};
+pub use laws::{
+    keys_tell_names, locators_are_read, names_are_decoded, names_are_read, values_are_decoded,
+};
 pub use list::List;
 pub use name::{Authority, Name, NameFault, Ual, Uan};
 pub use text::{NoMemory, Text};

@@ -6,8 +6,7 @@ ghost use Rattle.std.specs.Cmp.Lexicographic.{lists_equiv, lists_per, pointwise}
 use crate::text::NoMemory;
 use std::alloc::Global;
 use std::marker::Model;
-use std::mem;
-use std::slice;
+use std::{mem, slice};
 
 /// A `Vec` that contracts see as the list of its elements.
 ///

@@ -75,8 +75,12 @@ pub fn compare_texts(left: &Uan, right: &Uan) -> Ordering
 fn compare_uans(left: &Uan, right: &Uan) -> Ordering
     ensures { result ≡ slice_cmp nat_cmp (key (Name.Uan left.now)) (key (Name.Uan right.now)) }
 {
-    compare_texts(left, right)
-        .then(left.host.as_bytes().cmp(right.host.as_bytes()).then(left.port.cmp(&right.port)))
+    compare_texts(left, right).then(
+        left.host
+            .as_bytes()
+            .cmp(right.host.as_bytes())
+            .then(left.port.cmp(&right.port)),
+    )
 }
 
 impl Name {

@@ -37,7 +37,10 @@ fn is_path_byte(byte: u8) -> bool
     ensures { result ≡ is_path_byte byte }
 {
     byte.is_ascii_alphanumeric()
-        || matches!(byte, b'/' | b'.' | b'_' | b'-' | b'~' | b'+' | b'=' | b'%' | b'@' | b':' | b'?')
+        || matches!(
+            byte,
+            b'/' | b'.' | b'_' | b'-' | b'~' | b'+' | b'=' | b'%' | b'@' | b':' | b'?'
+        )
 }
 
 /// How many bytes stand before the first `:` or `/`.

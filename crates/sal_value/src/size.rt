@@ -1,9 +1,9 @@
 //! Sizes of spellings, without memory.
 
-ghost use Rattle.std.specs.Prelude.{◌≡◌, ◌≤◌, ◌<◌, true, length, if◌then◌else◌};
-ghost use Rattle.sal_value.specs.declared.name.Name.TheVariants as n;
+ghost use Rattle.std.specs.Prelude.{◌≡◌, ◌≤◌, ◌<◌, true, length, IsTrue};
+ghost use Rattle.std.specs.Bool.{OnTrue};
 ghost use Rattle.sal_value.specs.Names.{uan_text, is_uan, is_ual, is_host as good_host};
-ghost use Rattle.sal_value.specs.Spelling.{left_of, room_behind_name, room_behind, is_legal, size};
+ghost use Rattle.sal_value.specs.Spelling.{left_of, name_is_spelled, room_behind_name, room_behind, is_spelled, is_legal, size};
 
 use crate::address::between;
 use crate::name::{Name, Ual, Uan};
@@ -52,6 +52,17 @@ impl Ual {
 }
 
 impl Name {
+    /// Whether the name has a spelling.
+    #[tactic(auto, unfolding(crate::specs::Spelling::name_is_spelled))]
+    pub fn has_spelling(&self) -> bool
+        ensures { result ≡ name_is_spelled self.now }
+    {
+        match self {
+            Name::Uan(uan) => uan.is_readable(),
+            Name::Anon(..) | Name::Outside(_) => true,
+        }
+    }
+
     #[tactic(auto, using(crate::proofs::Rooms::name_anon, crate::proofs::Rooms::name_outside, crate::proofs::Rooms::name_uan, crate::proofs::Texts::host_short, crate::proofs::Texts::path_short))]
     fn room_behind(&self, room: u32) -> Option<u32>
         ensures { result ≡ room_behind_name self.now room }
@@ -112,9 +123,10 @@ impl Value {
     }
 
     /// Whether the value keeps the limits of the language.
-    #[tactic(auto, unfolding(crate::specs::Spelling::is_legal, crate::specs::Spelling::room_behind))]
+    #[tactic(auto, using(crate::proofs::Rooms::legal_spelled), unfolding(crate::specs::Spelling::is_legal, crate::specs::Spelling::room_behind))]
     pub fn legal(&self) -> bool
-        ensures { result ≡ is_legal self.now }
+        ensures exact { result ≡ is_legal self.now }
+        ensures spelled { OnTrue result (IsTrue (is_spelled self.now)) }
     {
         self.room_behind(64, 65536).is_some()
     }

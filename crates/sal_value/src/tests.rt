@@ -83,7 +83,20 @@ fn is_spelled_so(
     assert!(rt; read == *value);
     assert_eq!(rt; len, bytes.len());
     assert_eq!(rt; read.encoded_size() as usize, bytes.len());
-    assert!(rt; read.legal());
+    Ok(())
+}
+
+fn is_encoded_so(
+    rt: &impl Abort,
+    alloc: Global,
+    value: &Value,
+    bytes: &[u8],
+) -> Result<(), NoMemory> {
+    let mut out = List::new(alloc);
+    let legal = value.legal();
+    assert!(rt; legal);
+    value.encode(alloc, &mut out)?;
+    assert_eq!(rt; out.as_slice(), bytes);
     Ok(())
 }
 
@@ -120,6 +133,10 @@ fn values_are_spelled(rt: HostRuntime) -> Result<(), Fail> {
     is_spelled_so(&rt, alloc, &true_and_null(alloc)?, ARRAY)?;
     is_spelled_so(&rt, alloc, &Value::Array(List::new(alloc)), ARRAY_EMPTY)?;
     is_spelled_so(&rt, alloc, &reference(alloc)?, REFERENCE)?;
+    is_encoded_so(&rt, alloc, &Value::Int(-2), INT)?;
+    is_encoded_so(&rt, alloc, &text_of(alloc, "hé")?, STR)?;
+    is_encoded_so(&rt, alloc, &true_and_null(alloc)?, ARRAY)?;
+    is_encoded_so(&rt, alloc, &reference(alloc)?, REFERENCE)?;
     is_copied(&rt, alloc, &Value::Int(-2))?;
     is_copied(&rt, alloc, &text_of(alloc, "hé")?)?;
     is_copied(&rt, alloc, &true_and_null(alloc)?)?;
@@ -188,10 +205,15 @@ fn is_name_spelled_so(
     alloc: Global,
     name: &Name,
     bytes: &[u8],
-) -> Result<(), DecodeFault> {
+) -> Result<(), Fail> {
     let (read, len) = Name::decode(alloc, bytes)?;
     assert!(rt; read == *name);
     assert_eq!(rt; len, bytes.len());
+    let mut out = List::new(alloc);
+    let spelled = name.has_spelling();
+    assert!(rt; spelled);
+    name.encode(alloc, &mut out)?;
+    assert_eq!(rt; out.as_slice(), bytes);
     Ok(())
 }
 

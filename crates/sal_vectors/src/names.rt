@@ -17,9 +17,22 @@ pub const LOCATORS: [(&str, &str); 4] = [
     ("rmsp://h:1/a/b", "rmsp://h:1/"),
 ];
 
-pub const BAD_SCHEMES: [&str; 6] = ["http://h/a", "", "uan:/", "uan:/h/a", "rmsp://h/a", " uan://h/a"];
+pub const BAD_SCHEMES: [&str; 6] = [
+    "http://h/a",
+    "",
+    "uan:/",
+    "uan:/h/a",
+    "rmsp://h/a",
+    " uan://h/a",
+];
 
-pub const BAD_HOSTS: [&str; 5] = ["uan:///a", "uan://", "uan://:1/a", "uan://h_/a", "uan://h /:/"];
+pub const BAD_HOSTS: [&str; 5] = [
+    "uan:///a",
+    "uan://",
+    "uan://:1/a",
+    "uan://h_/a",
+    "uan://h /:/",
+];
 
 pub const BAD_PORTS: [&str; 9] = [
     "uan://h:0/a",
@@ -33,7 +46,13 @@ pub const BAD_PORTS: [&str; 9] = [
     "uan://h:x",
 ];
 
-pub const BAD_PATHS: [&str; 5] = ["uan://h/", "uan://h", "uan://h:1", "uan://h:1/a b", "uan://h/#"];
+pub const BAD_PATHS: [&str; 5] = [
+    "uan://h/",
+    "uan://h",
+    "uan://h:1",
+    "uan://h:1/a b",
+    "uan://h/#",
+];
 
 pub const BAD_LOCATOR_SCHEMES: [&str; 2] = ["uan://h/a", "rmsp:/h"];
 

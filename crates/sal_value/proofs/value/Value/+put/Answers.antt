@@ -14,6 +14,7 @@ loop-item-init t c =
     ∙ items_begin old c.args.self.now c.in-Array.items xs c.to_be_bytes-in-Array.result c.in-Array.is c.as_slice-item-items.ensures (c.to_be_bytes-in-Array.ensures ∙ ap (to_be_bytes w16) c.len.ensures)
 
 pub put-requires-in-loop-item : goal.put-requires-in-loop-item
-put-requires-in-loop-item t c =
-    (first_of (search rules, search (rules, the_lemmas), grind (arith, the_lemmas)),
-    item_fits c.args.self.now c.in-Array.items c.as_slice-item-items.result.now c.loop-item.item-index c.item-item.result c.in-Array.is c.as_slice-item-items.ensures c.loop-item-test.true c.item-item.is c.requires)
+put-requires-in-loop-item t c = (
+  first_of (search rules, search (rules, the_lemmas), grind (arith, the_lemmas)),
+  item_fits c.args.self.now c.in-Array.items c.as_slice-item-items.result.now c.loop-item.item-index c.item-item.result c.in-Array.is c.as_slice-item-items.ensures c.loop-item-test.true c.item-item.is c.requires,
+)
