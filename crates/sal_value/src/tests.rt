@@ -72,88 +72,84 @@ fn lengths_of_names(rt: HostRuntime) -> Result<(), Fail> {
     Ok(())
 }
 
-/// The value is spelled so, and read from its spelling; its copy is equal.
-fn is_spelled_so(
-    rt: &impl Abort,
-    alloc: Global,
-    value: &Value,
-    bytes: &[u8],
-) -> Result<(), DecodeFault> {
+/// The value is read from these bytes, all of them.
+fn is_read_so(rt: &impl Abort, alloc: Global, value: &Value, bytes: &[u8]) -> Result<(), Fail> {
     let (read, len) = Value::decode(alloc, bytes)?;
     assert!(rt; read == *value);
     assert_eq!(rt; len, bytes.len());
-    assert_eq!(rt; read.encoded_size() as usize, bytes.len());
     Ok(())
 }
 
-fn is_encoded_so(
-    rt: &impl Abort,
-    alloc: Global,
-    value: &Value,
-    bytes: &[u8],
-) -> Result<(), NoMemory> {
-    let mut out = List::new(alloc);
+fn is_written_so(rt: &impl Abort, alloc: Global, value: &Value, bytes: &[u8]) -> Result<(), Fail> {
     let legal = value.legal();
     assert!(rt; legal);
+    let mut out = List::new(alloc);
     value.encode(alloc, &mut out)?;
     assert_eq!(rt; out.as_slice(), bytes);
     Ok(())
 }
 
-fn is_copied(rt: &impl Abort, alloc: Global, value: &Value) -> Result<(), NoMemory> {
+/// The value has this spelling, and a copy is equal to it.
+fn is_spelled_so(rt: &impl Abort, alloc: Global, value: &Value, bytes: &[u8]) -> Result<(), Fail> {
+    is_read_so(rt, alloc, value, bytes)?;
+    is_written_so(rt, alloc, value, bytes)?;
     let copy = value.clone_in(alloc)?;
     assert!(rt; copy == *value);
     Ok(())
 }
 
-fn text_of(alloc: Global, text: &str) -> Result<Value, NoMemory> {
-    Ok(Value::Str(Text::from_text(alloc, text)?))
-}
-
-fn true_and_null(alloc: Global) -> Result<Value, NoMemory> {
-    let mut items = List::new(alloc);
-    items.push(Value::Bool(true))?;
-    items.push(Value::Null)?;
-    Ok(Value::Array(items))
-}
-
-fn reference(alloc: Global) -> Result<Value, NameFault> {
-    Ok(Value::Ref(Name::Uan(Uan::read(alloc, b"uan://h:3030/a")?)))
+#[test]
+fn numbers_are_spelled(rt: HostRuntime) -> Result<(), Fail> {
+    is_spelled_so(&rt, rt.alloc(), &Value::Int(-2), INT)?;
+    is_spelled_so(&rt, rt.alloc(), &Value::Int(i32::MIN), INT_LEAST)
 }
 
 #[test]
-fn values_are_spelled(rt: HostRuntime) -> Result<(), Fail> {
-    let alloc = rt.alloc();
-    is_spelled_so(&rt, alloc, &Value::Null, NULL)?;
-    is_spelled_so(&rt, alloc, &Value::Int(-2), INT)?;
-    is_spelled_so(&rt, alloc, &Value::Int(i32::MIN), INT_LEAST)?;
-    is_spelled_so(&rt, alloc, &Value::Bool(true), BOOL)?;
-    is_spelled_so(&rt, alloc, &text_of(alloc, "hé")?, STR)?;
-    is_spelled_so(&rt, alloc, &text_of(alloc, "")?, STR_EMPTY)?;
-    is_spelled_so(&rt, alloc, &true_and_null(alloc)?, ARRAY)?;
-    is_spelled_so(&rt, alloc, &Value::Array(List::new(alloc)), ARRAY_EMPTY)?;
-    is_spelled_so(&rt, alloc, &reference(alloc)?, REFERENCE)?;
-    is_encoded_so(&rt, alloc, &Value::Int(-2), INT)?;
-    is_encoded_so(&rt, alloc, &text_of(alloc, "hé")?, STR)?;
-    is_encoded_so(&rt, alloc, &true_and_null(alloc)?, ARRAY)?;
-    is_encoded_so(&rt, alloc, &reference(alloc)?, REFERENCE)?;
-    is_copied(&rt, alloc, &Value::Int(-2))?;
-    is_copied(&rt, alloc, &text_of(alloc, "hé")?)?;
-    is_copied(&rt, alloc, &true_and_null(alloc)?)?;
-    is_copied(&rt, alloc, &reference(alloc)?)?;
-    Ok(())
+fn null_and_true_are_spelled(rt: HostRuntime) -> Result<(), Fail> {
+    is_spelled_so(&rt, rt.alloc(), &Value::Null, NULL)?;
+    is_spelled_so(&rt, rt.alloc(), &Value::Bool(true), BOOL)
+}
+
+#[test]
+fn a_text_is_spelled(rt: HostRuntime) -> Result<(), Fail> {
+    let text = Value::Str(Text::from_text(rt.alloc(), "hé")?);
+    is_spelled_so(&rt, rt.alloc(), &text, STR)
+}
+
+#[test]
+fn an_array_is_spelled(rt: HostRuntime) -> Result<(), Fail> {
+    let mut items = List::new(rt.alloc());
+    items.push(Value::Bool(true))?;
+    items.push(Value::Null)?;
+    let array = Value::Array(items);
+    is_spelled_so(&rt, rt.alloc(), &array, ARRAY)
+}
+
+#[test]
+fn a_reference_is_spelled(rt: HostRuntime) -> Result<(), Fail> {
+    let reference = Value::Ref(Name::Uan(Uan::read(rt.alloc(), b"uan://h:3030/a")?));
+    is_spelled_so(&rt, rt.alloc(), &reference, REFERENCE)
+}
+
+/// The place of the wrong field.
+fn place(alloc: Global, bytes: &[u8]) -> Option<usize> {
+    match Value::decode(alloc, bytes) {
+        Err(DecodeFault::Bad(place)) => Some(place),
+        _ => None,
+    }
+}
+
+fn is_cut(alloc: Global, bytes: &[u8]) -> bool {
+    matches!(Value::decode(alloc, bytes), Err(DecodeFault::Cut))
 }
 
 #[test]
 fn faults_have_places(rt: HostRuntime) {
     for bytes in &CUT {
-        assert!(rt; matches!(Value::decode(rt.alloc(), bytes), Err(DecodeFault::Cut)));
+        assert!(rt; is_cut(rt.alloc(), bytes));
     }
-    for (bytes, place) in &BAD {
-        match Value::decode(rt.alloc(), bytes) {
-            Err(DecodeFault::Bad(found)) => assert_eq!(rt; found, *place),
-            _ => assert!(rt; false),
-        }
+    for (bytes, wrong) in &BAD {
+        assert_eq!(rt; place(rt.alloc(), bytes), Some(*wrong));
     }
 }
 
@@ -176,30 +172,42 @@ fn zeros(alloc: Global, front: &[u8], count: u32) -> Result<List<u8>, NoMemory> 
     Ok(bytes)
 }
 
-/// The place of the wrong field.
-fn place(alloc: Global, bytes: &List<u8>) -> Option<usize> {
-    match Value::decode(alloc, bytes.as_slice()) {
-        Err(DecodeFault::Bad(place)) => Some(place),
-        _ => None,
+/// How many bytes a good value takes.
+fn size(alloc: Global, bytes: &[u8]) -> Option<u32> {
+    match Value::decode(alloc, bytes) {
+        Ok((value, _)) => Some(value.encoded_size()),
+        Err(_) => None,
     }
 }
 
 #[test]
-fn limits_of_values(rt: HostRuntime) -> Result<(), Fail> {
-    let alloc = rt.alloc();
-    let (deep, _) = Value::decode(alloc, nested(alloc, 64)?.as_slice())?;
-    assert_eq!(rt; deep.encoded_size(), 192);
-    assert_eq!(rt; place(alloc, &nested(alloc, 65)?), Some(192));
-    let (array, _) = Value::decode(alloc, zeros(alloc, &[4, 0x10, 0], 4096)?.as_slice())?;
-    assert_eq!(rt; array.encoded_size(), 4099);
-    assert_eq!(rt; place(alloc, &zeros(alloc, &[4, 0x10, 1], 4097)?), Some(1));
-    let (text, _) = Value::decode(alloc, zeros(alloc, &[3, 0x10, 0], 4096)?.as_slice())?;
-    assert_eq!(rt; text.encoded_size(), 4099);
-    assert_eq!(rt; place(alloc, &zeros(alloc, &[3, 0x10, 1], 4097)?), Some(1));
+fn arrays_nest_64_deep(rt: HostRuntime) -> Result<(), Fail> {
+    let good = nested(rt.alloc(), 64)?;
+    assert_eq!(rt; size(rt.alloc(), good.as_slice()), Some(192));
+    let deep = nested(rt.alloc(), 65)?;
+    assert_eq!(rt; place(rt.alloc(), deep.as_slice()), Some(192));
     Ok(())
 }
 
-/// The name is spelled so, and read from its spelling.
+#[test]
+fn arrays_have_4096_items(rt: HostRuntime) -> Result<(), Fail> {
+    let good = zeros(rt.alloc(), &[4, 0x10, 0], 4096)?;
+    assert_eq!(rt; size(rt.alloc(), good.as_slice()), Some(4099));
+    let long = zeros(rt.alloc(), &[4, 0x10, 1], 4097)?;
+    assert_eq!(rt; place(rt.alloc(), long.as_slice()), Some(1));
+    Ok(())
+}
+
+#[test]
+fn texts_have_4096_bytes(rt: HostRuntime) -> Result<(), Fail> {
+    let good = zeros(rt.alloc(), &[3, 0x10, 0], 4096)?;
+    assert_eq!(rt; size(rt.alloc(), good.as_slice()), Some(4099));
+    let long = zeros(rt.alloc(), &[3, 0x10, 1], 4097)?;
+    assert_eq!(rt; place(rt.alloc(), long.as_slice()), Some(1));
+    Ok(())
+}
+
+/// The name has this spelling.
 fn is_name_spelled_so(
     rt: &impl Abort,
     alloc: Global,
@@ -207,28 +215,34 @@ fn is_name_spelled_so(
     bytes: &[u8],
 ) -> Result<(), Fail> {
     let (read, len) = Name::decode(alloc, bytes)?;
-    assert!(rt; read == *name);
+    assert!(rt; read.is(name));
     assert_eq!(rt; len, bytes.len());
-    let mut out = List::new(alloc);
     let spelled = name.has_spelling();
     assert!(rt; spelled);
+    let mut out = List::new(alloc);
     name.encode(alloc, &mut out)?;
     assert_eq!(rt; out.as_slice(), bytes);
     Ok(())
 }
 
 #[test]
-fn names_are_spelled_and_ordered(rt: HostRuntime) -> Result<(), Fail> {
-    let alloc = rt.alloc();
-    let last = Name::Anon(u32::MAX, u64::MAX);
-    is_name_spelled_so(&rt, alloc, &Name::Anon(1, 258), ANON)?;
-    is_name_spelled_so(&rt, alloc, &last, ANON_LAST)?;
-    is_name_spelled_so(&rt, alloc, &Name::Outside(7), OUTSIDE)?;
-    let short = Name::Uan(Uan::read(alloc, b"uan://h:80/a")?);
-    let long = Name::Uan(Uan::read(alloc, b"uan://h:8080/a")?);
-    assert!(rt; Name::Anon(1, 258) < last);
-    assert!(rt; last < Name::Outside(0));
-    assert!(rt; Name::Outside(7) < short);
-    assert!(rt; short < long);
+fn names_are_spelled(rt: HostRuntime) -> Result<(), Fail> {
+    is_name_spelled_so(&rt, rt.alloc(), &Name::Anon(1, 258), ANON)?;
+    is_name_spelled_so(&rt, rt.alloc(), &Name::Anon(u32::MAX, u64::MAX), ANON_LAST)?;
+    is_name_spelled_so(&rt, rt.alloc(), &Name::Outside(7), OUTSIDE)
+}
+
+/// The first name comes before the second.
+fn is_before(alloc: Global, first: &[u8], second: &[u8]) -> Result<bool, NameFault> {
+    let first = Name::Uan(Uan::read(alloc, first)?);
+    let second = Name::Uan(Uan::read(alloc, second)?);
+    Ok(first < second)
+}
+
+#[test]
+fn names_are_ordered(rt: HostRuntime) -> Result<(), Fail> {
+    assert!(rt; is_before(rt.alloc(), b"uan://h:80/a", b"uan://h:8080/a")?);
+    assert!(rt; is_before(rt.alloc(), b"uan://h.h:1/a", b"uan://h:1/a")?);
+    assert!(rt; Name::Anon(u32::MAX, u64::MAX) < Name::Outside(0));
     Ok(())
 }
