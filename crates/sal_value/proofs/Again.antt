@@ -1,5 +1,5 @@
 -- What is spelled is decoded again.
-use Rattle.std.proofs.Common.{◌≡◌, ℕ, ℤ, pos, negsuc, zero, suc, ◌-◌, ◌+◌, ◌^◌, ◌<◌, ◌≤◌, ◌==◌, Bool, true, false, ◌&&◌, List, [], ◌∷◌, ◌++◌, length, map, Option, Some, None, Result, Ok, Err, refl, sym, ap, subst, ◌∙◌, append_assoc, arith, rules}
+use Rattle.std.proofs.Common.{◌≡◌, ℕ, ℤ, pos, negsuc, zero, suc, ◌-◌, ◌^◌, ◌<◌, ◌≤◌, Bool, true, false, ◌&&◌, List, [], ◌∷◌, ◌++◌, length, map, Ok, refl, sym, ap, subst, ◌∙◌, append_assoc, arith, rules}
 use Rattle.std.specs.Prelude.{if◌then◌else◌, nat_lt, nat_le}
 use Rattle.std.specs.Int.{w16, w32, w64, to_be_bytes, cast_signed, cast_unsigned}
 use Rattle.std.specs.List.{list_all, flat_map}
@@ -7,17 +7,16 @@ use Rattle.std.specs.Str.{is_utf8}
 use Rattle.std.proofs.lemmas.Bool.Decides.{nat_tests}
 use Rattle.std.proofs.lemmas.Int.{to_z-of_z, ints}
 use Rattle.std.proofs.lemmas.List.{length-append}
-use Rattle.sal_value.specs.declared.fields.Fault.{Fault}
 use Rattle.sal_value.specs.declared.name.Uan.{Uan}
 use Rattle.sal_value.specs.declared.name.Name.{Name}
 use Rattle.sal_value.specs.declared.name.Name.TheVariants as name
-use Rattle.sal_value.specs.declared.value.Value.{Value, roll-Value, out-Value, roll-out-Value, map-Value, fold-Value, fold-roll-Value}
+use Rattle.sal_value.specs.declared.value.Value.{Value, roll-Value, out-Value, roll-out-Value, map-Value, fold-roll-Value}
 use Rattle.sal_value.specs.declared.value.Value.TheVariants as v
 use Rattle.sal_value.specs.declared.value.Value.TheOpen.{Value-F}
 use Rattle.sal_value.specs.Names.{uan_text, is_uan, is_host, is_port, is_uan_path}
 use Rattle.sal_value.specs.Spelling.{text_bytes, anon_bytes, name_spelling, name_is_spelled, spelling, fits, is_spelled}
 use Rattle.sal_value.specs.Coding.{is_i32, name_in_range, range_step, in_range}
-use Rattle.sal_value.specs.Decoding.{Reading, ◌>>=◌, wrong, byte_at, bytes_at, number_at, bool_at, text_at, uan_of, named, uan_at, anon_at, name_at, items_at, count_at, array_at, tagged_at, value_at, placed, decoded_name, decoded_value}
+use Rattle.sal_value.specs.Decoding.{Reading, ◌>>=◌, wrong, bytes_at, number_at, bool_at, text_at, uan_of, named, uan_at, anon_at, name_at, items_at, count_at, array_at, tagged_at, value_at, placed, decoded_name, decoded_value}
 use Rattle.sal_value.proofs.Bytes.{both}
 use Rattle.sal_value.proofs.Canonical.{uan_of_text}
 use Rattle.sal_value.proofs.Texts.{length_uan_text, host_short, path_short}

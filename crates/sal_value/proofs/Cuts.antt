@@ -1,5 +1,5 @@
 -- Cutting a text at the first byte that passes a test.
-use Rattle.std.proofs.Common.{◌≡◌, ℕ, zero, suc, ◌+◌, ◌<◌, ◌≤◌, Bool, true, false, List, [], ◌∷◌, ◌++◌, length, get_or, take, drop, refl, sym, ap, subst, ◌∙◌, add-one, arith}
+use Rattle.std.proofs.Common.{◌≡◌, ℕ, zero, suc, ◌+◌, ◌<◌, ◌≤◌, Bool, true, false, List, [], ◌∷◌, ◌++◌, length, get_or, take, drop, refl, sym, ap, ◌∙◌, add-one, arith}
 use Rattle.sal_value.specs.Names.{NonePass, FirstPasses}
 
 none_suc : (test : ℕ → Bool) (xs : List ℕ) (i : ℕ) → i < length xs → NonePass test (take i xs) → test (get_or xs i 0) ≡ false → NonePass test (take (suc i) xs)

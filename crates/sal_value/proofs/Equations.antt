@@ -1,13 +1,12 @@
 -- The definitions on values, one equation for each kind of value.
-use Rattle.std.proofs.Common.{◌≡◌, ℕ, ℤ, zero, suc, ◌+◌, ◌-◌, ◌<◌, Bool, true, false, ◌&&◌, List, [], ◌∷◌, ◌++◌, length, map, refl, sym, ap, ◌∙◌, arith}
+use Rattle.std.proofs.Common.{◌≡◌, ℕ, ℤ, suc, ◌-◌, ◌<◌, Bool, true, false, ◌&&◌, List, [], ◌∷◌, ◌++◌, length, map, refl, sym, ap, ◌∙◌, arith}
 use Rattle.std.specs.Prelude.{nat_le, if◌then◌else◌}
-use Rattle.std.specs.Int.{w16, w32, w64, to_be_bytes, cast_unsigned}
+use Rattle.std.specs.Int.{w16, w32, to_be_bytes, cast_unsigned}
 use Rattle.std.specs.List.{list_all, concat, flat_map}
 use Rattle.std.proofs.lemmas.List.{length-map}
 use Rattle.sal_value.specs.declared.name.Name.{Name}
 use Rattle.sal_value.specs.declared.value.Base.{Base}
-use Rattle.sal_value.specs.declared.value.Base.TheVariants as base
-use Rattle.sal_value.specs.declared.value.Value.{Value, out-Value, roll-Value, map-Value, fold-Value, fold-roll-Value, fold_out-Value}
+use Rattle.sal_value.specs.declared.value.Value.{Value, out-Value, roll-Value, map-Value, fold-roll-Value, fold_out-Value}
 use Rattle.sal_value.specs.declared.value.Value.TheVariants as v
 use Rattle.sal_value.specs.declared.value.Value.TheOpen.{Value-F}
 use Rattle.sal_value.specs.Spelling.{text_bytes, name_spelling, name_is_spelled, spelling_step, spelling, fits_step, fits}

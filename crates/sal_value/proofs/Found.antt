@@ -1,15 +1,14 @@
 -- What is decoded is spelled by the bytes that were read.
-use Rattle.std.proofs.Common.{◌≡◌, ℕ, zero, suc, ◌-◌, ◌+◌, ◌^◌, ◌<◌, ◌≤◌, ◌==◌, Bool, true, false, ◌&&◌, List, [], ◌∷◌, ◌++◌, length, take, Option, Some, None, Result, Ok, Err, refl, sym, ap, subst, ◌∙◌, append_assoc, arith, inl, inr}
+use Rattle.std.proofs.Common.{◌≡◌, ℕ, zero, suc, ◌-◌, ◌+◌, ◌^◌, ◌≤◌, ◌==◌, Bool, true, false, ◌&&◌, List, [], ◌∷◌, ◌++◌, length, take, Option, Some, None, Ok, Err, refl, sym, ap, subst, ◌∙◌, arith, inl, inr}
 use Rattle.std.specs.Prelude.{if◌then◌else◌, nat_lt, nat_le}
 use Rattle.std.specs.Int.{w16, w32, w64, to_be_bytes, cast_signed, cast_unsigned}
 use Rattle.std.specs.List.{list_all, flat_map}
 use Rattle.std.specs.Str.{is_utf8}
-use Rattle.std.proofs.lemmas.Bool.{eqb-true, ltb-false}
+use Rattle.std.proofs.lemmas.Bool.{eqb-true}
 use Rattle.std.proofs.lemmas.Bool.Decides.{nat_tests}
 use Rattle.std.proofs.lemmas.Int.{of_z-to_z}
 use Rattle.std.proofs.lemmas.List.{take_at, length-append}
-use Rattle.sal_value.specs.declared.fields.Fault.{Fault}
-use Rattle.sal_value.specs.declared.fields.Fault.TheVariants.{Cut, Bad}
+use Rattle.sal_value.specs.declared.fields.Fault.TheVariants.{Bad}
 use Rattle.sal_value.specs.declared.name.Uan.{Uan}
 use Rattle.sal_value.specs.declared.name.Name.{Name}
 use Rattle.sal_value.specs.declared.name.Name.TheVariants as name
@@ -18,7 +17,7 @@ use Rattle.sal_value.specs.declared.value.Value.TheVariants as v
 use Rattle.sal_value.specs.Names.{uan_text, is_uan}
 use Rattle.sal_value.specs.Spelling.{text_bytes, anon_bytes, name_spelling, name_is_spelled, spelling, fits, is_spelled}
 use Rattle.sal_value.specs.Coding.{IsBytes}
-use Rattle.sal_value.specs.Decoding.{Reading, ◌>>=◌, wrong, byte_at, bytes_at, number_at, bool_at, text_at, uan_of, named, uan_at, anon_at, name_at, items_at, count_at, array_at, tagged_at, value_at, placed, placed_fault, decoded_name, decoded_value}
+use Rattle.sal_value.specs.Decoding.{Reading, ◌>>=◌, wrong, bytes_at, number_at, bool_at, text_at, uan_of, named, uan_at, anon_at, name_at, items_at, count_at, array_at, tagged_at, value_at, placed, decoded_name, decoded_value}
 use Rattle.sal_value.proofs.Canonical.{uan_of_is}
 use Rattle.sal_value.proofs.Takes.{done, bytes_tail, bind_ok, ok_is, guard_ok, not_err, chosen, Takes, takes_then, takes_tag, bytes_taken, wide16, wide32, wide64, number_taken}
 use Rattle.sal_value.proofs.Equations.{spelling_null, spelling_int, spelling_bool, spelling_str, spelling_ref, spelling_array, fits_null, fits_int, fits_bool, fits_str, fits_ref, fits_array}

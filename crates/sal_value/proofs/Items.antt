@@ -1,14 +1,12 @@
 -- Reading an array's items one after the other, as a loop does.
-use Rattle.std.proofs.Common.{◌≡◌, ℕ, zero, suc, ◌-◌, ◌+◌, ◌≤◌, ◌<◌, ◌==◌, Bool, true, false, List, [], ◌∷◌, ◌++◌, length, Result, Ok, Err, refl, sym, ap, ◌∙◌, append_assoc, arith}
-use Rattle.std.specs.Prelude.{if◌then◌else◌}
+use Rattle.std.proofs.Common.{◌≡◌, ℕ, zero, suc, ◌-◌, ◌+◌, ◌≤◌, ◌<◌, false, List, [], ◌∷◌, ◌++◌, length, Ok, Err, refl, sym, ap, ◌∙◌, append_assoc, arith}
 use Rattle.std.proofs.lemmas.List.{append-nil}
-use Rattle.std.proofs.lemmas.Bool.{eqb-true}
 use Rattle.sal_value.specs.declared.fields.Fault.{Fault}
 use Rattle.sal_value.specs.declared.fields.Fault.TheVariants.{Cut, Bad, Memory}
 use Rattle.sal_value.specs.declared.value.Value.{Value}
 use Rattle.sal_value.specs.declared.value.Value.TheVariants as value
 use Rattle.sal_value.specs.Decoding.{Reading, ◌>>=◌, wrong, count_at, items_at, array_at, tagged_at, is_array, value_at}
-use Rattle.sal_value.specs.Reads.{Fails, Gives}
+use Rattle.sal_value.specs.Reads.{Fails}
 
 -- ---- which reading it is
 

@@ -1,6 +1,5 @@
 -- Good names are those that reading gives.
-use Rattle.std.proofs.Common.{◌≡◌, ℕ, ◌≤◌, ◌<◌, ◌^◌, Bool, true, false, ◌&&◌, ◌||◌, List, [], ◌∷◌, ◌++◌, length, Result, Ok, Err, refl, sym, ap, subst, ◌∙◌, append_assoc, arith}
-use Rattle.std.specs.Prelude.{codes, IsTrue, nat_le}
+use Rattle.std.proofs.Common.{◌≡◌, ℕ, ◌≤◌, Bool, true, false, ◌&&◌, ◌||◌, List, [], ◌∷◌, ◌++◌, length, Ok, refl, sym, ap, subst, ◌∙◌, append_assoc, arith}
 use Rattle.std.specs.Char.{to_ascii_lowercase}
 use Rattle.std.specs.List.{list_all}
 use Rattle.std.specs.Fmt.{decimal}
@@ -13,7 +12,7 @@ use Rattle.sal_value.specs.declared.name.Uan.{Uan}
 use Rattle.sal_value.specs.declared.name.Ual.{Ual}
 use Rattle.sal_value.specs.declared.name.NameFault.{NameFault}
 use Rattle.sal_value.specs.declared.name.NameFault.TheVariants as fault
-use Rattle.sal_value.specs.Names.{lowered, address_text, uan_text, ual_text, is_host_byte, is_host, is_path, is_uan_path, is_ual_path, NonePass, FirstPasses, is_colon, is_slash, ends_host, Kind, name_kind, locator_kind, Parts, IsPort, Written, Refused, ReadsUan, ReadsUal, is_port, is_uan, is_ual, NamesAreRead, LocatorsAreRead}
+use Rattle.sal_value.specs.Names.{lowered, address_text, uan_text, ual_text, is_host_byte, is_host, is_path, is_uan_path, NonePass, FirstPasses, is_colon, is_slash, ends_host, Kind, name_kind, locator_kind, Parts, IsPort, Written, Refused, ReadsUan, ReadsUal, is_port, is_uan, is_ual, NamesAreRead, LocatorsAreRead}
 use Rattle.sal_value.proofs.Bytes.{both, host_parts}
 use Rattle.sal_value.proofs.Cuts.{cut_same, front_same}
 

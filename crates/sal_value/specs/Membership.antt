@@ -1,5 +1,5 @@
 -- Which values belong to a type.
-use Rattle.std.specs.Prelude.{ℕ, zero, suc, Bool, true, false, List}
+use Rattle.std.specs.Prelude.{ℕ, zero, suc, Bool, true, false}
 use Rattle.std.specs.List.{list_all}
 use Rattle.sal_value.specs.declared.value.Base.{Base}
 use Rattle.sal_value.specs.declared.value.Base.TheVariants as base

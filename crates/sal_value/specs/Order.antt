@@ -1,6 +1,5 @@
 -- The order of names.
 use Rattle.std.specs.Prelude.{◌≡◌, ℕ, suc, List, [], ◌∷◌, ◌++◌, map}
-use Rattle.sal_value.specs.declared.name.Uan.{Uan}
 use Rattle.sal_value.specs.declared.name.Name.{Name}
 use Rattle.sal_value.specs.declared.name.Name.TheVariants as name
 use Rattle.sal_value.specs.Names.{uan_text}
