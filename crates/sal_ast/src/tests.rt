@@ -523,7 +523,7 @@ fn a_program_of_every_form_is_spelled(rt: HostRuntime) -> Result<(), Fail> {
 /// A letter for each kind: word, identifier, number, text, and a dot for a sign.
 const SPELLED: [(&str, &str); 25] = [
     ("behavior B {", "wi."),
-    ("int [ ] [ ] n = new int [ 2 ] [ ] ;", "w....i.ww.n....."),
+    ("int [ ] [ ] n = new int [ 2 ] [ ] ;", "w....i.ww.n...."),
     ("B ( int a , String [ ] b ) {", "i.wi.w..i.."),
     ("this . n [ 0 ] = - this . k ; ; }", "w.i.n...w.i..."),
     ("boolean m ( ) { return ! ( true ) ; }", "wi...w..w..."),
