@@ -1,5 +1,5 @@
 -- Brackets are closed.
-use Rattle.std.proofs.Common.{◌≡◌, ◌≢◌, ◌≤◌, ◌<◌, ℕ, zero, suc, ◌+◌, ◌-◌, max, Bool, true, false, if◌then◌else◌, nat_lt, List, [], ◌∷◌, ◌++◌, length, map, Option, Some, None, option_map, option_and_then, codes, append_assoc, refl, sym, ap, subst, ◌∙◌, arith}
+use Rattle.std.proofs.Common.{◌≡◌, ◌≤◌, ℕ, zero, suc, ◌+◌, ◌-◌, max, true, false, if◌then◌else◌, nat_lt, List, [], ◌∷◌, ◌++◌, length, map, Option, Some, None, option_and_then, codes, append_assoc, refl, sym, ap, subst, ◌∙◌, arith}
 use Rattle.std.proofs.lemmas.Bool.{lt-ltb}
 use Prim.Native.String.{String}
 use Rattle.sal_ast.specs.declared.lexeme.Kind.TheVariants as kind
@@ -16,9 +16,9 @@ use Rattle.sal_ast.specs.declared.program.Ident.{Ident}
 use Rattle.sal_ast.specs.declared.program.BaseName.{BaseName}
 use Rattle.sal_ast.specs.declared.program.BaseName.TheVariants as base
 use Rattle.sal_ast.specs.declared.program.TypeName.{TypeName}
-use Rattle.sal_ast.specs.Brackets.{Bracket, Round, Square, Curly, same, Turn, Opens, Closes, Keeps, turn_of, kind_turn, sign_turn, popped, turned, open_after}
+use Rattle.sal_ast.specs.Brackets.{Bracket, Round, Square, Curly, Opens, Closes, Keeps, turn_of, sign_turn, popped, turned, open_after}
 use Rattle.sal_ast.specs.Depth.{greatest, expr_depth, suffix_depth, at_depth, operand_depth, depth_expr, depth_suffix, depth_at, depth_operand}
-use Rattle.sal_ast.specs.Spell.{Piece, Pieces, piece, sign, identifier, all, led, joined, brackets, spell_base, spell_type, spell_op, spell_reference, spell_second, if_there, expr_pieces, suffix_pieces, at_pieces, operand_pieces, spell_expr, spell_suffix, spell_at, spell_operand}
+use Rattle.sal_ast.specs.Spell.{Piece, Pieces, sign, all, led, joined, brackets, spell_base, spell_type, spell_op, spell_reference, expr_pieces, suffix_pieces, at_pieces, operand_pieces, spell_expr, spell_suffix, spell_at, spell_operand}
 
 -- behind these tokens the open brackets are those before them, and no more than so many more were open
 pub record Fits (h : ℕ) (ps : Pieces) : Type 0 where

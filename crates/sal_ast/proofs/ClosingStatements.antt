@@ -1,5 +1,5 @@
 -- Brackets are closed in statements and programs.
-use Rattle.std.proofs.Common.{◌≡◌, ◌≢◌, ◌≤◌, ◌<◌, ℕ, zero, suc, ◌+◌, ◌-◌, max, Bool, true, false, List, [], ◌∷◌, ◌++◌, length, map, Option, Some, None, option_map, refl, sym, ap, subst, ◌∙◌, arith}
+use Rattle.std.proofs.Common.{◌≡◌, ℕ, suc, ◌+◌, max, Bool, true, false, List, [], ◌∷◌, ◌++◌, map, Option, Some, None, option_map, refl, sym, ap, subst, arith}
 use Rattle.sal_ast.specs.declared.lexeme.Kind.TheVariants as kind
 use Rattle.sal_ast.specs.declared.expression.Expr.{Expr}
 use Rattle.sal_ast.specs.declared.program.Ident.{Ident}
@@ -26,11 +26,11 @@ use Rattle.sal_ast.specs.declared.statement.Chain.{Chain}
 use Rattle.sal_ast.specs.declared.statement.Stage.TheViews.{roll-Stage, roll-Stmt, roll-Chain}
 use Rattle.sal_ast.specs.declared.statement.Stage.TheOpen.{Stage-F, Stmt-F, Chain-F}
 use Rattle.sal_ast.specs.declared.statement.Stage.TheFolds.{map-Stage, map-Stmt, map-Chain, fold-roll-Stage, fold-roll-Stmt, fold-roll-Chain, ind-Stmt}
-use Rattle.sal_ast.specs.Brackets.{Round, Square, Curly, Opens, Closes, Keeps, turn_of, open_after, BracketsAreClosed, SpellingsAreNotEmpty}
+use Rattle.sal_ast.specs.Brackets.{Keeps, turn_of, BracketsAreClosed, SpellingsAreNotEmpty}
 use Rattle.sal_ast.specs.Depth as deep
 use Rattle.sal_ast.specs.Depth.{greatest, stage_depth, stmt_depth, chain_depth, depth_expr, depth_stage, depth_stmt, depth_chain, depth_send, depth, depth_index, depth_declare, depth_assign, depth_init, depth_arg, depth_property, depth_member, depth_behavior}
 use Rattle.sal_ast.specs.Regular.{is_regular}
-use Rattle.sal_ast.specs.Spell.{Piece, Pieces, sign, identifier, all, joined, spell_type, if_there, spell_value, spell_option, spell_index, spell_this, spell_declare, spell_assign, spell_init, spell_header, spell_aim, spell_arg, spell_property, spell_send, spell_passed, else_pieces, stage_pieces, stmt_pieces, chain_pieces, spell_expr, spell_stage, spell_stmt, spell_chain, spell_block, spell_param, spell_params, spell_result, spell_member, spell_behavior, spell}
+use Rattle.sal_ast.specs.Spell.{Piece, Pieces, identifier, all, joined, if_there, spell_value, spell_option, spell_index, spell_this, spell_declare, spell_assign, spell_init, spell_header, spell_aim, spell_arg, spell_property, spell_send, spell_passed, stage_pieces, stmt_pieces, chain_pieces, spell_stage, spell_stmt, spell_chain, spell_block, spell_param, spell_params, spell_result, spell_member, spell_behavior, spell}
 use Rattle.sal_ast.proofs.Closing.{Fits, none, quiet, keep, more, two, round, square, curly, behind_round, Known, all_fit, joined_fit, all_fits, joined_fits, type_fits, expr_fits}
 
 one : {p : Piece} → turn_of p ≡ Keeps → Fits 0 (p ∷ [])

@@ -1,12 +1,12 @@
 -- The equations of regular trees, one for each form.
-use Rattle.std.proofs.Common.{◌≡◌, ℕ, Bool, List, map, Option, Some, None, option_map, sym, ap, ◌∙◌, refl}
+use Rattle.std.proofs.Common.{◌≡◌, ℕ, Bool, List, map, Option, Some, None, option_map, sym, ap, ◌∙◌}
 use Rattle.sal_ast.specs.declared.program.Ident.{Ident}
 use Rattle.sal_ast.specs.declared.program.TypeName.{TypeName}
 use Rattle.sal_ast.specs.declared.expression.Expr.{Expr}
 use Rattle.sal_ast.specs.declared.expression.Operand.{Operand}
 use Rattle.sal_ast.specs.declared.expression.Suffix.{Suffix}
 use Rattle.sal_ast.specs.declared.expression.At.{At}
-use Rattle.sal_ast.specs.declared.expression.Expr.TheOpen.{Expr-F, Suffix-F, At-F, Operand-F}
+use Rattle.sal_ast.specs.declared.expression.Expr.TheOpen.{Expr-F, Suffix-F}
 use Rattle.sal_ast.specs.declared.expression.Expr.TheFolds.{fold-roll-Expr, fold-roll-Suffix, fold_out-At, fold_out-Operand}
 use Rattle.sal_ast.specs.declared.expression.Expr.TheVariants as e
 use Rattle.sal_ast.specs.declared.expression.Suffix.TheVariants as x
@@ -15,9 +15,8 @@ use Rattle.sal_ast.specs.declared.statement.Assign.{Assign}
 use Rattle.sal_ast.specs.declared.statement.ForInit.{ForInit}
 use Rattle.sal_ast.specs.declared.statement.Send.{Send}
 use Rattle.sal_ast.specs.declared.statement.Stmt.{Stmt}
-use Rattle.sal_ast.specs.declared.statement.Stage.{Stage}
 use Rattle.sal_ast.specs.declared.statement.Chain.{Chain}
-use Rattle.sal_ast.specs.declared.statement.Stage.TheOpen.{Stage-F, Stmt-F, Chain-F}
+use Rattle.sal_ast.specs.declared.statement.Stage.TheOpen.{Stage-F, Stmt-F}
 use Rattle.sal_ast.specs.declared.statement.Stage.TheFolds.{fold-roll-Stmt, fold-roll-Stage, fold_out-Chain}
 use Rattle.sal_ast.specs.declared.statement.Stmt.TheVariants as t
 use Rattle.sal_ast.specs.declared.statement.Stage.TheVariants as g

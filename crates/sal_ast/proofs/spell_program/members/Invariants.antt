@@ -1,7 +1,6 @@
 use Rattle.std.proofs.Common.{◌≡◌, ◌++◌, map, drop}
 use Rattle.sal_ast.specs.Spell.{lexemes, all, joined}
 use Rattle.sal_ast.specs.Spell as spec
-use Rattle.sal_ast.proofs.SpellSteps.{go_on}
 use Rattle.sal_ast.proofs.spell_program.members.Given as goal
 
 abbrev pub invariant-loop-item : goal.invariant-loop-item
