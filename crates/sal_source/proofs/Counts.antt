@@ -1,16 +1,15 @@
 -- The equations of `stage_count`, one for each form.
-use Rattle.std.proofs.Common.{◌≡◌, ℕ, List, length, map, Option, Some, None, sym, ap, ◌∙◌}
+use Rattle.std.proofs.Common.{◌≡◌, ℕ, List, length, Option, Some, None, sym, ap, ◌∙◌}
 use Rattle.std.proofs.lemmas.List.{length-map}
 use Rattle.sal_ast.specs.declared.program.Ident.{Ident}
 use Rattle.sal_ast.specs.declared.expression.Expr.{Expr}
 use Rattle.sal_ast.specs.declared.statement.Declare.{Declare}
 use Rattle.sal_ast.specs.declared.statement.Assign.{Assign}
 use Rattle.sal_ast.specs.declared.statement.ForInit.{ForInit}
-use Rattle.sal_ast.specs.declared.statement.Stage.{Stage}
 use Rattle.sal_ast.specs.declared.statement.Stmt.{Stmt}
 use Rattle.sal_ast.specs.declared.statement.Chain.{Chain}
 use Rattle.sal_ast.specs.declared.statement.Stage.TheOpen.{Stmt-F}
-use Rattle.sal_ast.specs.declared.statement.Stage.TheFolds.{fold-roll-Stmt, fold_out-Chain, fold-Chain, fold-Stage}
+use Rattle.sal_ast.specs.declared.statement.Stage.TheFolds.{fold-roll-Stmt, fold_out-Chain, fold-Stage}
 use Rattle.sal_ast.specs.declared.statement.Stmt.TheVariants as t
 use Rattle.sal_source.specs.Stages.{no_count, count_step, chain_count, stage_count}
 
@@ -32,7 +31,7 @@ count-Assign a = ap stage_count (sym (t.rolls-Assign a)) ∙ fold-roll-Stmt (Uni
 
 pub count-IfNone : (at : ℕ) (test : Expr) (a : Stmt) → stage_count (t.If at test a None) ≡ 0
 unfolding stage_count
-count-IfNone at test a  = ap stage_count (sym (t.rolls-If at test a None)) ∙ fold-roll-Stmt (Unit {0}) ℕ ℕ no_count count_step chain_count (Stmt-F.If at test a None)
+count-IfNone at test a = ap stage_count (sym (t.rolls-If at test a None)) ∙ fold-roll-Stmt (Unit {0}) ℕ ℕ no_count count_step chain_count (Stmt-F.If at test a None)
 
 pub count-IfSome : (at : ℕ) (test : Expr) (a b : Stmt) → stage_count (t.If at test a (Some b)) ≡ 0
 unfolding stage_count

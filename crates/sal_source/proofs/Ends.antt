@@ -12,7 +12,6 @@ use Rattle.sal_mail.specs.declared.message.Target.TheVariants as target
 use Rattle.sal_mail.specs.declared.effects.Actor.{Actor}
 use Rattle.sal_mail.specs.Message.{is_ready}
 use Rattle.sal_ast.specs.declared.program.Program.{Program}
-use Rattle.sal_source.specs.declared.state.Step.{Step}
 use Rattle.sal_source.specs.declared.state.Step.TheVariants as step
 use Rattle.sal_source.specs.Table.{Words, words_eq, table_of}
 use Rattle.sal_source.specs.Keys.{name_key, made_key, message_key}
@@ -20,8 +19,8 @@ use Rattle.sal_source.specs.Listed.{found, AreDistinct}
 use Rattle.sal_source.specs.Configuration.{Configuration}
 use Rattle.sal_source.specs.Give.{give}
 use Rattle.sal_source.specs.Step as s
-use Rattle.sal_source.proofs.Tables.{words_refl, words_apart, same_words, get-table_of}
-use Rattle.sal_source.proofs.Played.{ready, not_ready}
+use Rattle.sal_source.proofs.Tables.{words_refl, words_apart, get-table_of}
+use Rattle.sal_source.proofs.Played.{ready}
 
 -- ---- no message is possible
 

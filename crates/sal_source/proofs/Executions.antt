@@ -1,5 +1,5 @@
 -- The equations of `exec` and `stage`, one for each form.
-use Rattle.std.proofs.Common.{◌≡◌, ℕ, ◌+◌, ◌<◌, List, [], ◌∷◌, length, map, get_or, drop, drop-cons, length-drop, zero, suc, add-one, Option, Some, None, Ok, refl, sym, ap, ◌∙◌, arith}
+use Rattle.std.proofs.Common.{◌≡◌, ℕ, ◌+◌, ◌<◌, List, [], ◌∷◌, length, map, get_or, drop, drop-cons, length-drop, suc, add-one, Option, Some, None, Ok, refl, sym, ap, ◌∙◌, arith}
 use Rattle.sal_ast.specs.declared.program.Ident.{Ident}
 use Rattle.sal_ast.specs.declared.expression.Expr.{Expr}
 use Rattle.sal_ast.specs.declared.statement.Declare.{Declare}
@@ -15,8 +15,7 @@ use Rattle.sal_ast.specs.declared.statement.Stmt.TheVariants as t
 use Rattle.sal_ast.specs.declared.statement.Stage.TheVariants as g
 use Rattle.sal_source.specs.declared.state.State.{State}
 use Rattle.sal_source.specs.declared.state.End.{End}
-use Rattle.sal_source.specs.declared.state.End.TheVariants as end
-use Rattle.sal_source.specs.Evaluation.{Reads, Eval, ◌>>=◌, ◌>>◌}
+use Rattle.sal_source.specs.Evaluation.{Reads, ◌>>=◌, ◌>>◌}
 use Rattle.sal_source.specs.Reading.{end_for}
 use Rattle.sal_source.specs.Handler.{Run, StageRun, stage_step, stmt_step, chain_step, exec, stage, message, ended, chain, end_of, sequence}
 
@@ -38,7 +37,7 @@ exec-Assign a r s = ap (λ d. exec d r s) (sym (t.rolls-Assign a)) ∙ ap (λ f.
 
 pub exec-IfNone : (at : ℕ) (test : Expr) (a : Stmt) (r : Reads) (s : State) → exec (t.If at test a None) r s ≡ Ok (tt, s)
 unfolding exec stage
-exec-IfNone at test a  r s = ap (λ d. exec d r s) (sym (t.rolls-If at test a None)) ∙ ap (λ f. f r s) (fold-roll-Stmt StageRun Run (List StageRun) stage_step stmt_step chain_step (Stmt-F.If at test a None))
+exec-IfNone at test a r s = ap (λ d. exec d r s) (sym (t.rolls-If at test a None)) ∙ ap (λ f. f r s) (fold-roll-Stmt StageRun Run (List StageRun) stage_step stmt_step chain_step (Stmt-F.If at test a None))
 
 pub exec-IfSome : (at : ℕ) (test : Expr) (a b : Stmt) (r : Reads) (s : State) → exec (t.If at test a (Some b)) r s ≡ Ok (tt, s)
 unfolding exec stage

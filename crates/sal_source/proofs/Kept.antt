@@ -1,6 +1,6 @@
 -- What the lists that keep a configuration give and lose.
 use Rattle.std.proofs.Common.{◌≡◌, ℕ, ◌<◌, length, get_or, Bool, true, false, cond, List, Option, Some, None, refl, sym, ap, ◌∙◌, subst}
-use Rattle.std.specs.Prelude.{slice_get, slice_set, remove, IfSome}
+use Rattle.std.specs.Prelude.{slice_get, remove, IfSome}
 use Rattle.std.specs.FinMap as fm
 use Rattle.sal_value.specs.declared.name.Name.{Name}
 use Rattle.sal_value.specs.declared.value.Value.{Value}
@@ -27,10 +27,11 @@ elem_is xs ys i e a s lt is got =
 pub taken_is : (q : Words) (xs : List Message) (i : ℕ) (y m : Message) (new : List Message) → AreDistinct message_key xs → IsFirst message_key q xs i y → is_ready y ≡ true →
     slice_get xs i ≡ Some m → new ≡ remove xs i → TakesReady q (table_of message_key xs) (Some m) (table_of message_key new)
 taken_is q xs i y m new d h r e n =
-    let s : y ≡ m = some_is (sym (IsFirst-get message_key q xs i y h) ∙ e) in
-    (IsFirst-table message_key q xs i y h ∙ ap (λ z. Some z) s,
-     ap is_ready (sym s) ∙ r,
-     ap (table_of message_key) n ∙ table-take message_key q xs i y d h ∙ ap (λ z. write (table_of message_key xs) (message_key z) None) s)
+    let s : y ≡ m = some_is (sym (IsFirst-get message_key q xs i y h) ∙ e) in (
+      IsFirst-table message_key q xs i y h ∙ ap (λ z. Some z) s,
+      ap is_ready (sym s) ∙ r,
+      ap (table_of message_key) n ∙ table-take message_key q xs i y d h ∙ ap (λ z. write (table_of message_key xs) (message_key z) None) s,
+    )
 
 pub not_taken : (q : Words) (xs : List Message) (P : Message → Type 0) → IfSome (found message_key q xs) P → IfSome (fm.get (table_of message_key xs) q) P
 not_taken q xs P h = let F : Option Message → Type 0 = λ o. IfSome o P in subst F (sym (get-table_of message_key xs q)) h

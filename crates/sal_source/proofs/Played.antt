@@ -1,8 +1,6 @@
 -- What one step's parts make of a configuration.
-use Rattle.std.proofs.Common.{◌≡◌, ℕ, zero, suc, ◌+◌, Bool, true, false, cond, List, [], ◌∷◌, ◌++◌, length, take, nat_eq, Option, Some, None, refl, sym, ap, ◌∙◌, subst, Result, Ok, Err, add-one}
+use Rattle.std.proofs.Common.{◌≡◌, ℕ, zero, suc, ◌+◌, Bool, true, false, List, [], ◌∷◌, ◌++◌, take, nat_eq, Option, Some, None, refl, sym, ap, ◌∙◌, subst, Result, add-one}
 use Rattle.std.specs.Prelude.{slice_get, IfSome, IfOk, option_and_then}
-use Rattle.std.specs.FinMap as fm
-use Rattle.sal_value.specs.declared.name.Name.{Name}
 use Rattle.sal_value.specs.declared.text.NoMemory.{NoMemory}
 use Rattle.sal_mail.specs.declared.message.Message.{Message}
 use Rattle.sal_mail.specs.declared.effects.Actor.{Actor}
@@ -15,7 +13,7 @@ use Rattle.sal_source.specs.declared.state.Outcome.TheVariants as outcome
 use Rattle.sal_source.specs.declared.state.Step.{Step}
 use Rattle.sal_source.specs.Handler.{handle}
 use Rattle.sal_source.specs.Configuration.{Configuration}
-use Rattle.sal_source.specs.Step.{put_message, put_messages, put_actor, add_fault, installed, answered, actor_at, call_of, handle_message, print_message, ready_only, pending, drop_message, handle_step, print_step, step}
+use Rattle.sal_source.specs.Step.{put_message, put_messages, add_fault, installed, answered, actor_at, call_of, handle_message, ready_only, step}
 use Rattle.sal_source.specs.Run.{steps}
 use Rattle.sal_source.specs.Changes.{Did}
 

@@ -1,5 +1,5 @@
 -- The run of a chain of prints.
-use Rattle.std.proofs.Common.{◌≡◌, ℕ, zero, suc, ◌+◌, ◌<◌, ◌≤◌, Bool, true, false, List, [], ◌∷◌, ◌++◌, length, map, filter, not, cond, ◌&&◌, nat_eq, nat_lt, Option, Some, None, Ok, Err, refl, ap, sym, ◌∙◌, subst, arith, append_assoc, length-append, codes, if◌then◌else◌}
+use Rattle.std.proofs.Common.{◌≡◌, ℕ, ◌+◌, ◌<◌, ◌≤◌, Bool, true, false, List, [], ◌∷◌, ◌++◌, length, map, cond, nat_eq, Option, Some, None, Ok, refl, ap, sym, ◌∙◌, arith, append_assoc, length-append, codes, if◌then◌else◌}
 use Rattle.std.proofs.lemmas.List.{append-nil, length-map}
 use Rattle.std.proofs.lemmas.Bool.{lt-ltb, le-ltb, eq-eqb, ne_eqb}
 use Rattle.std.specs.Prelude.{option_and_then}
@@ -7,28 +7,25 @@ use Rattle.std.specs.List.{list_all}
 use Rattle.std.specs.FinMap as fm
 use Rattle.std.specs.FinSet as fs
 use Rattle.std.specs.Str.{bytes_eq}
-use Rattle.sal_value.specs.declared.name.Name.{Name}
-use Rattle.sal_value.specs.declared.name.Name.TheVariants.{Anon, Outside}
+use Rattle.sal_value.specs.declared.name.Name.TheVariants.{Outside}
 use Rattle.sal_value.specs.declared.value.Value.{Value}
 use Rattle.sal_value.specs.declared.value.Value.TheVariants.{Str, Null}
 use Rattle.sal_mail.specs.declared.message.Message.{Message}
 use Rattle.sal_mail.specs.declared.message.Piece.{Piece}
 use Rattle.sal_mail.specs.declared.message.Piece.TheVariants.{Known}
-use Rattle.sal_mail.specs.declared.message.Target.TheVariants as target
 use Rattle.sal_mail.specs.declared.effects.Actor.{Actor}
-use Rattle.sal_mail.specs.Message.{known, told, is_known, is_other}
+use Rattle.sal_mail.specs.Message.{known, is_known}
 use Rattle.sal_source.specs.declared.state.State.{State}
 use Rattle.sal_source.specs.declared.state.End.{End}
 use Rattle.sal_source.specs.declared.state.End.TheVariants as end
 use Rattle.sal_source.specs.declared.state.Setup.{Setup}
-use Rattle.sal_source.specs.declared.state.Step.{Step}
 use Rattle.sal_source.specs.declared.state.Step.TheVariants as step
-use Rattle.sal_source.specs.Table.{Words, Table, words_eq, write, table_map, table_of}
+use Rattle.sal_source.specs.Table.{Words, Table, words_eq, write, table_of}
 use Rattle.sal_source.specs.Keys.{name_key, made_key, message_key}
 use Rattle.sal_source.specs.Listed.{found}
 use Rattle.sal_mail.specs.declared.effects.Effects.{Effects}
 use Rattle.sal_source.specs.declared.state.Outcome.TheVariants as outcome
-use Rattle.sal_source.specs.Evaluation.{Checked, Reads, Eval, ◌>>=◌, pure}
+use Rattle.sal_source.specs.Evaluation.{Checked, Reads}
 use Rattle.sal_source.specs.Handler as h
 use Rattle.sal_source.specs.Configuration.{Configuration, actor_key, start_name, start_actor, act_message, first_of}
 use Rattle.sal_source.specs.Give.{resolve, give}

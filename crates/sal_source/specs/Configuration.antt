@@ -1,5 +1,5 @@
 -- Configurations: what is there between two steps. No place occurs in one.
-use Rattle.std.specs.Prelude.{◌≡◌, ℕ, List, [], ◌∷◌, Option, Some, None, refl}
+use Rattle.std.specs.Prelude.{ℕ, List, [], ◌∷◌, Option, Some, None, refl}
 use Rattle.std.specs.Coded.{Coded, code_by, coded×, coded_ℕ, coded_list}
 use Rattle.std.specs.FinMap as fm
 use Rattle.std.specs.FinSet as fs
@@ -19,7 +19,7 @@ use Rattle.sal_mail.specs.declared.fault.Fault.{Fault}
 use Rattle.sal_mail.specs.contracts.fault.Fault.{the_row as fault_row}
 use Rattle.sal_ast.specs.declared.program.Program.{Program}
 use Rattle.sal_source.specs.declared.state.Setup.{Setup}
-use Rattle.sal_source.specs.Table.{Words, words_cmp, Table, write, table_of}
+use Rattle.sal_source.specs.Table.{Words, words_cmp, Table, table_of}
 use Rattle.sal_source.specs.Keys.{name_key, message_key}
 use Rattle.sal_source.specs.Handler.{start_of}
 
@@ -39,11 +39,11 @@ words_code = coded_list coded_ℕ
 abbrev pub configuration_code : Coded Configuration
 configuration_code =
     code_by
-      (Table (Actor × ℕ) × (Table Message × (fs.FinSet words_cmp × (List (List ℕ) × (List Fault × List (ℕ × Value))))))
-      (coded× (fm.code words_code (coded× actor_row.coded coded_ℕ)) (coded× (fm.code words_code message_row.coded) (coded× (fs.code words_code) (coded× (coded_list words_code) (coded× (coded_list fault_row.coded) (coded_list (coded× coded_ℕ value_row.coded)))))))
-      (λ c. (c.actors, (c.messages, (c.given, (c.output, (c.faults, c.answers))))))
-      (λ p. record { actors = p.0; messages = p.1.0; given = p.1.1.0; output = p.1.1.1.0; faults = p.1.1.1.1.0; answers = p.1.1.1.1.1 })
-      (λ _. refl)
+    (Table (Actor × ℕ) × (Table Message × (fs.FinSet words_cmp × (List (List ℕ) × (List Fault × List (ℕ × Value))))))
+    (coded× (fm.code words_code (coded× actor_row.coded coded_ℕ)) (coded× (fm.code words_code message_row.coded) (coded× (fs.code words_code) (coded× (coded_list words_code) (coded× (coded_list fault_row.coded) (coded_list (coded× coded_ℕ value_row.coded)))))))
+    (λ c. (c.actors, (c.messages, (c.given, (c.output, (c.faults, c.answers))))))
+    (λ p. record { actors = p.0; messages = p.1.0; given = p.1.1.0; output = p.1.1.1.0; faults = p.1.1.1.1.0; answers = p.1.1.1.1.1 })
+    (λ _. refl)
 
 abbrev pub actor_key : Actor × ℕ → Words
 actor_key a = name_key a.0.name

@@ -1,10 +1,9 @@
 -- What a part of a handler does: a value and a state, or a trap, which undoes everything.
-use Rattle.std.specs.Prelude.{◌≡◌, ℕ, ◌+◌, ◌&&◌, nat_lt, List, [], ◌∷◌, ◌++◌, length, Result, Ok, Err, if◌then◌else◌}
+use Rattle.std.specs.Prelude.{◌≡◌, ℕ, ◌+◌, ◌&&◌, nat_lt, [], ◌∷◌, ◌++◌, length, Result, Ok, Err, if◌then◌else◌}
 use Rattle.sal_value.specs.declared.name.Name.{Name}
 use Rattle.sal_mail.specs.declared.fault.Trap.{Trap}
 use Rattle.sal_mail.specs.declared.fault.Trap.TheVariants.{TooManyMessages}
 use Rattle.sal_mail.specs.declared.message.Message.{Message}
-use Rattle.sal_mail.specs.declared.message.Reply.{Reply}
 use Rattle.sal_source.specs.declared.state.State.{State}
 use Rattle.sal_source.specs.declared.state.Stop.{Stop}
 use Rattle.sal_source.specs.declared.state.Stop.TheVariants.{Trap as Trapped, NoMemory}

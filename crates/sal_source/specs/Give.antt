@@ -1,5 +1,5 @@
 -- Giving a reply to whom it is owed.
-use Rattle.std.specs.Prelude.{ℕ, List, [], ◌∷◌, ◌++◌, cond}
+use Rattle.std.specs.Prelude.{ℕ, [], ◌∷◌, ◌++◌, cond}
 use Rattle.sal_value.specs.declared.name.Name.{Name}
 use Rattle.sal_value.specs.declared.value.Value.{Value}
 use Rattle.sal_mail.specs.declared.message.Reply.{Reply}

@@ -1,13 +1,12 @@
 -- What one handler does. Of the language the chains of prints are built so far: all other
 -- expressions are null, and all other statements, stages and properties do nothing.
-use Rattle.std.specs.Prelude.{ℕ, ◌+◌, Bool, true, false, ◌&&◌, ◌||◌, not, nat_eq, nat_lt, nat_le, cond, List, [], ◌∷◌, ◌++◌, length, map, filter_map, slice_get, codes, Option, Some, None, option_and_then, Result, Ok, Err, if◌then◌else◌}
+use Rattle.std.specs.Prelude.{ℕ, ◌+◌, Bool, true, false, ◌&&◌, nat_eq, nat_lt, List, [], ◌∷◌, ◌++◌, length, map, filter_map, slice_get, codes, Option, Some, None, option_and_then, Ok, Err, if◌then◌else◌}
 use Rattle.std.specs.Str.{bytes_eq}
 use Rattle.sal_value.specs.declared.name.Name.{Name}
 use Rattle.sal_value.specs.declared.value.Value.{Value}
 use Rattle.sal_value.specs.declared.value.Value.TheVariants.{Str, Null}
 use Rattle.sal_ast.specs.declared.program.BaseName.{BaseName}
 use Rattle.sal_ast.specs.declared.program.BaseName.TheVariants as base
-use Rattle.sal_ast.specs.declared.program.TypeName.{TypeName}
 use Rattle.sal_ast.specs.declared.program.Param.{Param}
 use Rattle.sal_ast.specs.declared.program.Member.{Member}
 use Rattle.sal_ast.specs.declared.program.Member.TheVariants as member
@@ -23,9 +22,8 @@ use Rattle.sal_ast.specs.declared.statement.Arg.TheVariants as arg
 use Rattle.sal_ast.specs.declared.statement.Send.{Send}
 use Rattle.sal_ast.specs.declared.statement.Stmt.{Stmt}
 use Rattle.sal_ast.specs.declared.statement.Stage.{Stage}
-use Rattle.sal_ast.specs.declared.statement.Chain.{Chain}
 use Rattle.sal_ast.specs.declared.statement.Stage.TheOpen.{Stmt-F, Stage-F, Chain-F}
-use Rattle.sal_ast.specs.declared.statement.Stage.TheFolds.{fold-Stmt, fold-Stage, fold-Chain}
+use Rattle.sal_ast.specs.declared.statement.Stage.TheFolds.{fold-Stmt, fold-Stage}
 use Rattle.sal_mail.specs.declared.fault.Trap.TheVariants.{TooLarge, TooManyMessages}
 use Rattle.sal_mail.specs.declared.message.Piece.{Piece}
 use Rattle.sal_mail.specs.declared.message.Piece.TheVariants.{Known, Token}

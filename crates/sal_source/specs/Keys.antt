@@ -1,5 +1,5 @@
 -- Names and messages as keys of tables.
-use Rattle.std.specs.Prelude.{ℕ, List, ◌∷◌}
+use Rattle.std.specs.Prelude.{ℕ, ◌∷◌}
 use Rattle.sal_value.specs.declared.name.Name.{Name}
 use Rattle.sal_value.specs.Order.{key}
 use Rattle.sal_mail.specs.declared.message.Message.{Message}

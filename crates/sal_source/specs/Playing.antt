@@ -1,5 +1,5 @@
 -- What the code that plays steps finds on its way.
-use Rattle.std.specs.Prelude.{◌≡◌, ℕ, true, false, nat_eq, List, Option, Some, None}
+use Rattle.std.specs.Prelude.{◌≡◌, ℕ, true, false, nat_eq, Some, None}
 use Rattle.std.specs.FinMap as fm
 use Rattle.sal_value.specs.declared.name.Name.{Name}
 use Rattle.sal_mail.specs.declared.message.Message.{Message}

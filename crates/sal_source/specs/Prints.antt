@@ -3,12 +3,10 @@
 use Rattle.std.specs.Prelude.{◌≡◌, ℕ, zero, suc, ◌+◌, ◌≤◌, List, [], ◌∷◌, ◌++◌, length, map, Option, Some, None, codes, if◌then◌else◌}
 use Rattle.std.specs.Str.{bytes_eq}
 use Rattle.sal_ast.specs.declared.program.Ident.{Ident}
-use Rattle.sal_ast.specs.declared.program.TypeName.{TypeName}
 use Rattle.sal_ast.specs.declared.program.BaseName.TheVariants as base
 use Rattle.sal_ast.specs.declared.program.Param.{Param}
 use Rattle.sal_ast.specs.declared.program.Member.{Member}
 use Rattle.sal_ast.specs.declared.program.Member.TheVariants as member
-use Rattle.sal_ast.specs.declared.program.Behavior.{Behavior}
 use Rattle.sal_ast.specs.declared.program.Program.{Program}
 use Rattle.sal_ast.specs.declared.expression.Expr.TheVariants as expr
 use Rattle.sal_ast.specs.declared.statement.Aim.TheVariants as aim
@@ -16,7 +14,6 @@ use Rattle.sal_ast.specs.declared.statement.Arg.{Arg}
 use Rattle.sal_ast.specs.declared.statement.Arg.TheVariants as arg
 use Rattle.sal_ast.specs.declared.statement.Stage.{Stage}
 use Rattle.sal_ast.specs.declared.statement.Stage.TheVariants as stage
-use Rattle.sal_ast.specs.declared.statement.Chain.{Chain}
 use Rattle.sal_ast.specs.declared.statement.Stmt.{Stmt}
 use Rattle.sal_ast.specs.declared.statement.Stmt.TheVariants as stmt
 use Rattle.sal_value.specs.declared.name.Name.TheVariants.{Anon, Outside}

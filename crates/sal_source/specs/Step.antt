@@ -1,5 +1,5 @@
 -- One step: which are possible, and what they change.
-use Rattle.std.specs.Prelude.{◌≡◌, ℕ, Bool, true, false, nat_eq, cond, ◌&&◌, is_some, List, [], ◌∷◌, ◌++◌, Option, Some, None, if◌then◌else◌}
+use Rattle.std.specs.Prelude.{◌≡◌, ℕ, Bool, true, nat_eq, ◌&&◌, is_some, List, [], ◌∷◌, ◌++◌, Option, Some, None, if◌then◌else◌}
 use Rattle.std.specs.FinMap as fm
 use Rattle.sal_value.specs.declared.name.Name.{Name}
 use Rattle.sal_value.specs.declared.value.Value.{Value}
@@ -13,7 +13,6 @@ use Rattle.sal_mail.specs.declared.effects.Actor.{Actor}
 use Rattle.sal_mail.specs.declared.effects.Effects.{Effects}
 use Rattle.sal_mail.specs.declared.effects.Answer.{Answer}
 use Rattle.sal_mail.specs.declared.effects.Answer.TheVariants as answer
-use Rattle.sal_mail.specs.declared.fault.Fault.{Fault}
 use Rattle.sal_mail.specs.declared.fault.FaultKind.{FaultKind}
 use Rattle.sal_mail.specs.declared.fault.FaultKind.TheVariants.{Trap as Trapped, NoHandler}
 use Rattle.sal_mail.specs.Message.{is_ready}
@@ -22,7 +21,7 @@ use Rattle.sal_source.specs.declared.state.Step.{Step}
 use Rattle.sal_source.specs.declared.state.Step.TheVariants.{Handle, Print}
 use Rattle.sal_source.specs.declared.state.Outcome.{Outcome}
 use Rattle.sal_source.specs.declared.state.Outcome.TheVariants as outcome
-use Rattle.sal_source.specs.Table.{Words, Table, write}
+use Rattle.sal_source.specs.Table.{write}
 use Rattle.sal_source.specs.Keys.{name_key, made_key, message_key}
 use Rattle.sal_source.specs.Handler.{Call, handle}
 use Rattle.sal_source.specs.Configuration.{Configuration}

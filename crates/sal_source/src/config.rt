@@ -43,12 +43,12 @@ impl Model for Config {
     ghost coded = { configuration_code };
 
     ghost view = { λ c. record {
-        actors = table_of actor_key c.actors;
-        messages = table_of message_key c.messages;
-        given = fs.from_list (map name_key c.given);
-        output = c.output;
-        faults = c.faults;
-        answers = c.answers;
+      actors = table_of actor_key c.actors;
+      messages = table_of message_key c.messages;
+      given = fs.from_list (map name_key c.given);
+      output = c.output;
+      faults = c.faults;
+      answers = c.answers;
     } };
 
     ghost invariant = { λ c. IsSorted actor_key c.actors × AreDistinct message_key c.messages };

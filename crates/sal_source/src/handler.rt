@@ -59,12 +59,7 @@ pub struct Reader<'a> {
     pub me: &'a Name,
 }
 
-fn piece(
-    alloc: Global,
-    state: &State,
-    arg: &Arg,
-    before: Option<u64>,
-) -> Result<Piece, Stop>
+fn piece(alloc: Global, state: &State, arg: &Arg, before: Option<u64>) -> Result<Piece, Stop>
     ensures { Gives (spec.piece_of arg.now before state.now) result state.now }
 {
     match arg {

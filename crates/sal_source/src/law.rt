@@ -4,5 +4,4 @@ ghost use Rattle.sal_source.specs.Prints.{ChainsOfPrintsRun};
 /// step is possible.
 pub fn chains_of_prints_run()
     ensures { ChainsOfPrintsRun }
-{
-}
+{}

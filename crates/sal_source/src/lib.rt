@@ -15,5 +15,5 @@ mod turn;
 pub use config::Config;
 pub use law::chains_of_prints_run;
 pub use player::play;
-pub use trace::trace_of;
 pub use state::{Outcome, PlayFault, Setup, Step};
+pub use trace::trace_of;

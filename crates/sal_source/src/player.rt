@@ -50,12 +50,7 @@ fn act_message(
     })
 }
 
-fn started(
-    alloc: Global,
-    words: Values,
-    behavior: u16,
-    handler: u16,
-) -> Result<Config, NoMemory>
+fn started(alloc: Global, words: Values, behavior: u16, handler: u16) -> Result<Config, NoMemory>
     ensures { IfOk result (λ c. c ≡ configuration.first_of words (Some (behavior, handler))) }
 {
     let fields = List::new(alloc);
@@ -85,12 +80,7 @@ fn first(alloc: Global, program: &Program, setup: &Setup) -> Result<Config, NoMe
             let words = copied(alloc, setup.words.as_slice())?;
             started(alloc, words, behavior, handler)
         }
-        None => Ok(Config::begin(
-            alloc,
-            List::new(alloc),
-            List::new(alloc),
-            List::new(alloc),
-        )),
+        None => Ok(Config::begin(alloc, List::new(alloc), List::new(alloc), List::new(alloc))),
     }
 }
 
@@ -244,11 +234,7 @@ fn printed(alloc: Global, message: &Message) -> Result<Text, NoMemory>
 }
 
 /// Whether a message that was taken out goes to the output, which then printed it.
-fn print_message(
-    alloc: Global,
-    config: &mut Config,
-    message: &Message,
-) -> Result<bool, NoMemory>
+fn print_message(alloc: Global, config: &mut Config, message: &Message) -> Result<bool, NoMemory>
     ensures { IfOk result (λ did. Did (spec.print_message message.now config.old) did config.new) }
 {
     match &message.target {

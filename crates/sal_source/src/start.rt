@@ -44,7 +44,8 @@ fn starts(member: &Member) -> Option<bool>
             ..
         } => Some(is_act(name.text.as_str(), params.as_slice())),
         Member::Handler {
-            result: Some(_), ..
+            result: Some(_),
+            ..
         } => Some(false),
         Member::Field { .. } => None,
         Member::Constructor { .. } => None,

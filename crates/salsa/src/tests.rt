@@ -7,7 +7,8 @@ use std::alloc::Global;
 use std::fs;
 use std::test::Fail;
 
-const HELLO: &str = "behavior Hello { void act(String[] args) { standardOutput<-print(\"Hello \") @ standardOutput<-println(\"World!\"); } }";
+const HELLO: &str =
+    "behavior Hello { void act(String[] args) { standardOutput<-print(\"Hello \") @ standardOutput<-println(\"World!\"); } }";
 
 const EMPTY: &str = "behavior E { void act(String[] a) { } }";
 
@@ -29,7 +30,12 @@ struct Ended {
 
 /// Calls `salsa` with these words, where the file `p` has this text. The calls of `out` with the
 /// listed numbers fail.
-fn ended(alloc: Global, words: &[&str], text: &str, failing: List<u64>) -> Result<Ended, NoMemory> {
+fn left_by(
+    alloc: Global,
+    words: &[&str],
+    text: &str,
+    failing: List<u64>,
+) -> Result<Ended, NoMemory> {
     let mut entries = List::new(alloc);
     entries.push(Entry {
         name: Text::from_text(alloc, "p")?,
@@ -77,7 +83,7 @@ fn programs_run_or_are_refused(rt: HostRuntime) -> Result<(), Fail> {
         (EMPTY, 0, "", ""),
         (FIELD, 2, "", "refused form\n"),
     ] {
-        let it = ended(alloc, &["run", "p"], text, List::new(alloc))?;
+        let it = left_by(alloc, &["run", "p"], text, List::new(alloc))?;
         assert_eq!(rt; it.status, status, "{text}");
         assert_eq!(rt; it.out.as_slice(), out.as_bytes(), "{text}");
         assert_eq!(rt; it.err.as_slice(), err.as_bytes(), "{text}");
@@ -88,15 +94,15 @@ fn programs_run_or_are_refused(rt: HostRuntime) -> Result<(), Fail> {
 #[test]
 fn faults_have_statuses(rt: HostRuntime) -> Result<(), Fail> {
     let alloc = rt.alloc();
-    let missing = ended(alloc, &["run", "q"], HELLO, List::new(alloc))?;
+    let missing = left_by(alloc, &["run", "q"], HELLO, List::new(alloc))?;
     assert_eq!(rt; missing.status, 5);
     assert_eq!(rt; missing.err.as_slice(), b"file fault\n".as_slice());
-    let wordless = ended(alloc, &[], HELLO, List::new(alloc))?;
+    let wordless = left_by(alloc, &[], HELLO, List::new(alloc))?;
     assert_eq!(rt; wordless.status, 1);
     assert_eq!(rt; wordless.err.as_slice(), b"usage\n".as_slice());
     let mut first = List::new(alloc);
     first.push(0)?;
-    let closed = ended(alloc, &["run", "p"], HELLO, first)?;
+    let closed = left_by(alloc, &["run", "p"], HELLO, first)?;
     assert_eq!(rt; closed.status, 6);
     assert_eq!(rt; closed.out.len(), 0);
     assert_eq!(rt; closed.err.len(), 0);
@@ -108,13 +114,13 @@ fn limits_are_met_exactly(rt: HostRuntime) -> Result<(), Fail> {
     let alloc = rt.alloc();
     for (more, status, length) in [(1023, 0, 1024), (1024, 2, 0)] {
         let text = chain(alloc, more)?;
-        let it = ended(alloc, &["run", "p"], text.as_str(), List::new(alloc))?;
+        let it = left_by(alloc, &["run", "p"], text.as_str(), List::new(alloc))?;
         assert_eq!(rt; it.status, status, "{more}");
         assert_eq!(rt; it.out.len(), length, "{more}");
     }
     for (bytes, status) in [(262_144, 0), (262_145, 2)] {
         let text = padded(alloc, bytes)?;
-        let it = ended(alloc, &["run", "p"], text.as_str(), List::new(alloc))?;
+        let it = left_by(alloc, &["run", "p"], text.as_str(), List::new(alloc))?;
         assert_eq!(rt; it.status, status, "{bytes}");
     }
     Ok(())

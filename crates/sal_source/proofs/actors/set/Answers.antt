@@ -10,8 +10,5 @@ pub returns-in_ok-set_at-in-Some-clause-ok : goal.returns-in_ok-set_at-in-Some-c
 returns-in_ok-set_at-in-Some-clause-ok c =
     set_is (name_key c.args.name.now) c.args.actors.now c.in-Some.at c.in-Some.ensures.place.0 c.args.fields c.args.next c.set_at.new.actors c.in-Some.ensures.place.1 c.in_ok-set_at-in-Some.ensures.ok
 
-
-
-
 pub returns-in-None-clause-ok : goal.returns-in-None-clause-ok
 returns-in-None-clause-ok c = set_nothing (name_key c.args.name.now) c.args.actors.now c.args.fields c.args.next c.in-None.ensures.place

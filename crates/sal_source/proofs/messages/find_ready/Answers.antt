@@ -1,5 +1,4 @@
-use Rattle.std.proofs.Common.{◌≡◌, ◌∙◌, sym}
-use Rattle.std.specs.Prelude.{slice_get}
+use Rattle.std.proofs.Common.{◌∙◌, sym}
 use Rattle.sal_source.specs.Keys.{message_key, made_key}
 use Rattle.sal_source.proofs.Tables.{Finds-first, IsFirst-found}
 use Rattle.sal_source.proofs.messages.find_ready.Goals as goal

@@ -1,4 +1,4 @@
-use Rattle.std.proofs.Common.{rules, ◌≡◌, ◌∙◌, ap, refl}
+use Rattle.std.proofs.Common.{◌∙◌, ap}
 use Rattle.sal_source.specs.Table.{table_of}
 use Rattle.sal_source.specs.Keys.{message_key}
 use Rattle.sal_source.proofs.Tables.{AreDistinct-set, AreDistinct-push, table-set, table-push}
@@ -19,6 +19,3 @@ returns-in_ok-push-in-None-clause-distinct c =
 pub returns-in_ok-push-in-None-clause-ok : goal.returns-in_ok-push-in-None-clause-ok
 returns-in_ok-push-in-None-clause-ok c =
     ap (table_of message_key) c.in_ok-push-in-None.ensures.ok ∙ table-push message_key c.args.messages.now c.args.message c.in-None.ensures.place
-
-
-

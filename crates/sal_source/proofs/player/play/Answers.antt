@@ -1,4 +1,4 @@
-use Rattle.std.proofs.Common.{rules, ◌≡◌, ◌+◌, suc, take, None, Some, true, false, not, ap, sym, ◌∙◌, add-one, subst, ℕ}
+use Rattle.std.proofs.Common.{rules, ◌≡◌, ◌+◌, take, None, Some, ap, sym, add-one}
 use Rattle.sal_source.specs.Configuration.{first}
 use Rattle.sal_source.specs.Run.{steps, play}
 use Rattle.sal_source.specs.Step.{step}

@@ -10,10 +10,11 @@ use Rattle.sal_source.proofs.Kept.{resolve_keeps}
 use Rattle.sal_source.proofs.config.Config.resolve.Goals as goal
 
 pub invariant_of-self-2 : goal.invariant_of-self-2
-invariant_of-self-2 c =
-    (c.self.invariant.0,
-     rw (c.in_ok-self-inside.ensures, c.replace-old.ensures.value)
-     (AreDistinct-each message_key (resolve c.args.owner.now c.args.number c.args.value.now) (resolve_keeps c.args.owner.now c.args.number c.args.value.now) c.self.inside.messages c.self.invariant.1))
+invariant_of-self-2 c = (
+  c.self.invariant.0,
+  rw (c.in_ok-self-inside.ensures, c.replace-old.ensures.value)
+      (AreDistinct-each message_key (resolve c.args.owner.now c.args.number c.args.value.now) (resolve_keeps c.args.owner.now c.args.number c.args.value.now) c.self.inside.messages c.self.invariant.1),
+)
 
 pub returns : goal.returns
 returns c =
