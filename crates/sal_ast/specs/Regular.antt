@@ -200,14 +200,14 @@ abbrev pub arg_is_regular : Arg → Bool
 arg_is_regular (arg.Token at) = true
 arg_is_regular (arg.Expr x) = expr_is_regular x
 
-abbrev pub is_some : {A : Type 0} → List A → Bool
-is_some [] = false
-is_some (x ∷ xs) = true
+abbrev pub has_any : {A : Type 0} → List A → Bool
+has_any [] = false
+has_any (x ∷ xs) = true
 
 -- ":" "delay" "(" expr ")" | ":" "waitfor" "(" Id { "," Id } ")"
 abbrev pub property_is_regular : Property → Bool
 property_is_regular (property.Delay at time) = expr_is_regular time
-property_is_regular (property.WaitFor at names) = is_some names
+property_is_regular (property.WaitFor at names) = has_any names
 
 -- [ target "<-" ] Id "(" [ arg { "," arg } ] ")" { property }
 unfoldable pub send_is_regular : Send → Bool
@@ -237,7 +237,7 @@ stage_step (Stage-F.Join at body) = all_formed body
 
 -- stage { "@" stage }
 abbrev pub chain_step : Chain-F Bool Form Bool → Bool
-chain_step c = is_some c.stages && all_true c.stages
+chain_step c = has_any c.stages && all_true c.stages
 
 -- a statement, from the forms of its parts
 abbrev pub stmt_step : Stmt-F Bool Form Bool → Form
@@ -287,4 +287,4 @@ behavior_is_regular b = list_all member_is_regular b.members
 
 -- behavior { behavior }
 unfoldable pub is_regular : Program → Bool
-is_regular p = is_some p.behaviors && list_all behavior_is_regular p.behaviors
+is_regular p = has_any p.behaviors && list_all behavior_is_regular p.behaviors
