@@ -1,0 +1,4 @@
+pub mod Blocks
+pub mod NumberTests
+pub mod Runs
+pub mod WordGroups
