@@ -2,3 +2,5 @@ pub mod Blocks
 pub mod NumberTests
 pub mod Runs
 pub mod WordGroups
+pub mod Forms
+pub mod Closings

@@ -2,3 +2,4 @@ pub mod Values
 pub mod Tokens
 pub mod Spans
 pub mod Reading
+pub mod Refusals

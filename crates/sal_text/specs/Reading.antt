@@ -8,16 +8,12 @@ use Rattle.sal_text.specs.declared.token.LexRule.TheVariants as rule
 use Rattle.sal_text.specs.declared.piece.Piece.{Piece}
 use Rattle.sal_text.specs.declared.piece.Piece.TheVariants as piece
 use Rattle.sal_text.specs.Values.{bad_escape}
-use Rattle.sal_text.specs.Tokens.{is_blank, is_in_line}
+use Rattle.sal_text.specs.Tokens.{is_blank, is_in_line, begins_slash}
 
 -- how many such bytes stand at the front
 abbrev pub run_length : (ℕ → Bool) → List ℕ → ℕ
 run_length is [] = 0
 run_length is (c ∷ cs) = cond (is c) (suc (run_length is cs)) 0
-
-abbrev pub begins_slash : List ℕ → Bool
-begins_slash [] = false
-begins_slash (c ∷ cs) = nat_eq c 47
 
 -- how many bytes stand up to the first `*/`, with it
 abbrev pub block_length : List ℕ → Option ℕ
@@ -39,7 +35,10 @@ short_sign c =
 
 abbrev pub long_sign : ℕ → ℕ → Bool
 long_sign c d =
-    nat_eq d 61 && (nat_eq c 61 || nat_eq c 33 || nat_eq c 60 || nat_eq c 62)
+    nat_eq c 61 && nat_eq d 61
+    || nat_eq c 33 && nat_eq d 61
+    || nat_eq c 60 && nat_eq d 61
+    || nat_eq c 62 && nat_eq d 61
     || nat_eq c 38 && nat_eq d 38
     || nat_eq c 124 && nat_eq d 124
     || nat_eq c 60 && nat_eq d 45

@@ -91,10 +91,14 @@ pub record IsLine (bytes rest : List ℕ) : Type 0 where
   pub on_line : list_all is_in_line inside ≡ true
   pub ended : begins is_in_line rest ≡ false
 
+abbrev pub begins_slash : List ℕ → Bool
+begins_slash [] = false
+begins_slash (c ∷ cs) = nat_eq c 47
+
 -- `*/` stands somewhere in the bytes
 abbrev pub holds_end : List ℕ → Bool
 holds_end [] = false
-holds_end (c ∷ cs) = nat_eq c 42 && begins (λ d. nat_eq d 47) cs || holds_end cs
+holds_end (c ∷ cs) = nat_eq c 42 && begins_slash cs || holds_end cs
 
 -- `/*`, and all up to the first `*/` behind it
 pub record IsBlock (bytes : List ℕ) : Type 0 where

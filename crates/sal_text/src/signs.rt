@@ -15,7 +15,10 @@ fn is_short_sign(byte: u8) -> bool
 fn is_long_sign(byte: u8, next: u8) -> bool
     ensures { result ≡ long_sign byte next }
 {
-    next == b'=' && (byte == b'=' || byte == b'!' || byte == b'<' || byte == b'>')
+    byte == b'=' && next == b'='
+        || byte == b'!' && next == b'='
+        || byte == b'<' && next == b'='
+        || byte == b'>' && next == b'='
         || byte == b'&' && next == b'&'
         || byte == b'|' && next == b'|'
         || byte == b'<' && next == b'-'

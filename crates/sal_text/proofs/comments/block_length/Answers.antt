@@ -1,6 +1,6 @@
 use Rattle.std.proofs.Common.{◌+◌, ◌&&◌, nat_eq, get_or, sym, ◌∙◌, ap}
 use Rattle.std.proofs.lemmas.List.{take_rest}
-use Rattle.sal_text.specs.Reading.{begins_slash}
+use Rattle.sal_text.specs.Tokens.{begins_slash}
 use Rattle.sal_text.proofs.Blocks.{block_step}
 use Rattle.sal_text.proofs.comments.block_length.Goals as goal
 
