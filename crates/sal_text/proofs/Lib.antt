@@ -4,3 +4,5 @@ pub mod Runs
 pub mod WordGroups
 pub mod Forms
 pub mod Closings
+pub mod Sound
+pub mod Steps

@@ -3,3 +3,4 @@ pub mod Tokens
 pub mod Spans
 pub mod Reading
 pub mod Refusals
+pub mod Found

@@ -5,7 +5,8 @@ use Rattle.std.specs.Str.Lossy.{utf8_valid_len}
 use Rattle.sal_ast.specs.Lexemes.{is_number}
 use Rattle.sal_text.specs.declared.token.LexRule.{LexRule}
 use Rattle.sal_text.specs.declared.token.LexRule.TheVariants as rule
-use Rattle.sal_text.specs.declared.token.Token.{Token}
+use Rattle.sal_text.specs.declared.token.LexFault.{LexFault}
+use Rattle.sal_text.specs.declared.token.LexFault.TheVariants as fault
 use Rattle.sal_text.specs.Values.{bad_escape}
 use Rattle.sal_text.specs.Tokens.{is_blank, is_digits, is_string, is_form, IsLongest, holds_end, Part, Cuts, begins}
 
@@ -77,3 +78,8 @@ Refuses rule.L2 at text = IsCutShort rule.L2 at text
 Refuses rule.L3 at text = IsCutShort rule.L3 at text
 Refuses rule.L4 at text = IsCutShort rule.L4 at text
 Refuses rule.L5 at text = IsCutShort rule.L5 at text
+
+-- the answer is the text's refusal, or want of memory
+abbrev pub IsRefusal : List ℕ → LexFault → Type 0
+IsRefusal text (fault.Refused rule at) = Refuses rule at text
+IsRefusal text fault.Memory = Unit {0}

@@ -3,6 +3,7 @@
 
 mod bytes;
 mod comments;
+mod cutting;
 mod numbers;
 mod piece;
 mod signs;
@@ -10,4 +11,5 @@ mod strings;
 mod token;
 mod words;
 
+pub use cutting::lex;
 pub use token::{LexFault, LexRule, Token, Tokens};
