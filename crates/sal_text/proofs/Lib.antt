@@ -6,3 +6,5 @@ pub mod Forms
 pub mod Closings
 pub mod Sound
 pub mod Steps
+pub mod Complete
+pub mod OneAnswer

@@ -4,3 +4,4 @@ pub mod Spans
 pub mod Reading
 pub mod Refusals
 pub mod Found
+pub mod Answered

@@ -4,6 +4,7 @@
 mod bytes;
 mod comments;
 mod cutting;
+mod laws;
 mod numbers;
 mod piece;
 mod signs;
@@ -12,4 +13,5 @@ mod token;
 mod words;
 
 pub use cutting::lex;
+pub use laws::{covered_or_refused, one_list_covers, one_refusal_stands};
 pub use token::{LexFault, LexRule, Token, Tokens};
