@@ -8,3 +8,4 @@ pub mod Sound
 pub mod Steps
 pub mod Complete
 pub mod OneAnswer
+pub mod Stood

@@ -5,3 +5,4 @@ pub mod Reading
 pub mod Refusals
 pub mod Found
 pub mod Answered
+pub mod Standing

@@ -1,6 +1,8 @@
 -- What the bytes of strings and numbers stand for.
 use Rattle.std.specs.Prelude.{ℕ, suc, ◌-◌, Bool, true, false, ◌||◌, cond, nat_eq, List, [], ◌∷◌, Option, Some, None}
 use Rattle.std.specs.Str.Parse.{digits_value}
+use Rattle.sal_ast.specs.declared.lexeme.Kind.{Kind}
+use Rattle.sal_ast.specs.declared.lexeme.Kind.TheVariants as kind
 
 -- the eight letters that may stand behind a backslash: `b t n f r " ' \`
 abbrev pub is_escape : ℕ → Bool
@@ -27,6 +29,14 @@ string_value (c ∷ cs) = inside_value false cs
 -- the number that digits spell
 abbrev pub number_value : List ℕ → ℕ
 number_value = digits_value 10
+
+-- the text of a token's lexeme: of a string its value, else its bytes
+abbrev pub lexeme_text : Kind → List ℕ → List ℕ
+lexeme_text kind.Word bytes = bytes
+lexeme_text kind.Id bytes = bytes
+lexeme_text kind.Number bytes = bytes
+lexeme_text kind.Str bytes = string_value bytes
+lexeme_text kind.Sign bytes = bytes
 
 -- the bytes are counted from `at`
 unfoldable pub bad_escape_from : ℕ → Bool → List ℕ → Option ℕ

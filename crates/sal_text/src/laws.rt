@@ -1,6 +1,7 @@
 //! What holds of every text.
 
 ghost use Rattle.sal_text.specs.Answered.{OneCover, NoneOfBoth, OneRefusal};
+ghost use Rattle.sal_text.specs.Standing.{TokensStand, SpansAreInside};
 
 /// No two lists of tokens cover a text.
 pub fn one_list_covers()
@@ -15,4 +16,14 @@ pub fn covered_or_refused()
 /// A text has one refusal at most.
 pub fn one_refusal_stands()
     ensures { OneRefusal }
+{}
+
+/// Each token stands in its text, with the bytes of its kind.
+pub fn tokens_stand()
+    ensures { TokensStand }
+{}
+
+/// The bytes of each token can be asked for.
+pub fn spans_are_inside()
+    ensures { SpansAreInside }
 {}

@@ -13,5 +13,5 @@ mod token;
 mod words;
 
 pub use cutting::lex;
-pub use laws::{covered_or_refused, one_list_covers, one_refusal_stands};
+pub use laws::{covered_or_refused, one_list_covers, one_refusal_stands, spans_are_inside, tokens_stand};
 pub use token::{LexFault, LexRule, Token, Tokens};
