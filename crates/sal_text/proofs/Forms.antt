@@ -28,7 +28,7 @@ among test bytes [] h e = absurd (cc)
 among test bytes (x ∷ xs) h e =
     let p = and_parts (test x) (list_all test xs) h in
     elim (or_cases (bytes_eq bytes x) (list_any (bytes_eq bytes) xs) e)
-      [ inl k ↦ ap test (eq_is bytes x k) ∙ p.0 | inr k ↦ among test bytes xs p.1 k ]
+    [ inl k ↦ ap test (eq_is bytes x k) ∙ p.0 | inr k ↦ among test bytes xs p.1 k ]
 
 -- ---- words
 

@@ -89,14 +89,17 @@ number_judged c cs true h e = record {
     kept = e;
   };
 }
-number_judged c cs false h e = (refl, record {
-  digits = c ∷ take (run_length is_digit cs) cs;
-  behind = drop (run_length is_digit cs) cs;
-  spelled = ap (λ t. c ∷ t) (sym (take-append-drop (run_length is_digit cs) cs));
-  form = and_from (is_digit c) _ h (run_all is_digit cs);
-  longest = digits_longest c (take (run_length is_digit cs) cs) (drop (run_length is_digit cs) cs) h (run_ended is_digit cs);
-  bad = e;
-})
+number_judged c cs false h e = (
+  refl,
+  record {
+    digits = c ∷ take (run_length is_digit cs) cs;
+    behind = drop (run_length is_digit cs) cs;
+    spelled = ap (λ t. c ∷ t) (sym (take-append-drop (run_length is_digit cs) cs));
+    form = and_from (is_digit c) _ h (run_all is_digit cs);
+    longest = digits_longest c (take (run_length is_digit cs) cs) (drop (run_length is_digit cs) cs) h (run_ended is_digit cs);
+    bad = e;
+  },
+)
 
 number_found : (c : ℕ) (cs : List ℕ) → is_digit c ≡ true → Found (number_piece (c ∷ cs)) (c ∷ cs)
 unfolding number_piece

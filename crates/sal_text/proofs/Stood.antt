@@ -76,3 +76,7 @@ inside_at text tokens (Some token) f = λ other e. let s = f other e in (s.order
 
 pub spans_are_inside : SpansAreInside
 spans_are_inside text tokens i k h = record { there = h; inside = inside_at text tokens (slice_get tokens i) (λ token e. tokens_stand text tokens i token k e) }
+
+-- the same where the tokens hold the text
+pub span_held : (text source : List ℕ) (tokens : List Token) (i : ℕ) → source ≡ text → Covers text tokens → i < length tokens → SpanIsInside source tokens i
+span_held text source tokens i e k h = subst (λ t. SpanIsInside t tokens i) (sym e) (spans_are_inside text tokens i k h)

@@ -9,9 +9,13 @@ mod numbers;
 mod piece;
 mod signs;
 mod strings;
+#[cfg(test)]
+mod tests;
 mod token;
 mod words;
 
 pub use cutting::lex;
-pub use laws::{covered_or_refused, one_list_covers, one_refusal_stands, spans_are_inside, tokens_stand};
+pub use laws::{
+    covered_or_refused, one_list_covers, one_refusal_stands, spans_are_inside, tokens_stand,
+};
 pub use token::{LexFault, LexRule, Token, Tokens};

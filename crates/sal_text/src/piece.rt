@@ -29,7 +29,11 @@ fn name_piece(text: &[u8]) -> Piece
     ensures { result ≡ name_piece text.now }
 {
     let count = name_length(text);
-    let kind = if is_word(&text[..count]) { Kind::Word } else { Kind::Id };
+    let kind = if is_word(&text[..count]) {
+        Kind::Word
+    } else {
+        Kind::Id
+    };
     Piece::Token(kind, count)
 }
 
