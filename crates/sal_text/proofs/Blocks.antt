@@ -1,6 +1,6 @@
 -- The end of a comment, byte by byte.
-use Rattle.std.proofs.Common.{◌≡◌, ℕ, suc, ◌+◌, ◌<◌, Bool, true, false, ◌&&◌, ◌||◌, nat_eq, cond, List, [], ◌∷◌, ◌++◌, length, drop, get_or, drop-cons, Option, Some, None, option_map, refl, ap, sym, ◌∙◌, subst, add-one, arith}
-use Rattle.std.proofs.lemmas.Bool.{and_parts, and_left, or_from, or_parts, eqb-true}
+use Rattle.std.proofs.Common.{◌≡◌, ℕ, suc, ◌+◌, ◌<◌, Bool, true, false, ◌&&◌, nat_eq, cond, List, [], ◌∷◌, ◌++◌, length, drop, get_or, drop-cons, Option, Some, None, option_map, refl, ap, sym, ◌∙◌, add-one, arith}
+use Rattle.std.proofs.lemmas.Bool.{and_parts, or_from, or_parts, eqb-true}
 use Rattle.sal_text.specs.Tokens.{begins_slash, holds_end}
 use Rattle.sal_text.specs.Reading.{block_length}
 

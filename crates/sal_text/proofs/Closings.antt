@@ -1,6 +1,6 @@
 -- Where a string is closed.
-use Rattle.std.proofs.Common.{◌≡◌, ℕ, zero, suc, ◌+◌, ◌≤◌, Bool, true, false, not, ◌&&◌, nat_eq, cond, List, [], ◌∷◌, ◌++◌, length, take, drop, Option, Some, None, option_map, refl, ap, sym, ◌∙◌, subst, add-one, append-nil, length-append, arith}
-use Rattle.std.proofs.lemmas.Bool.{both_ways, false_from_ne_true, and_parts, and_from, not-true, eqb-true}
+use Rattle.std.proofs.Common.{◌≡◌, ℕ, zero, suc, ◌+◌, ◌≤◌, Bool, true, false, not, ◌&&◌, nat_eq, cond, List, [], ◌∷◌, ◌++◌, length, take, drop, Some, None, option_map, refl, ap, sym, ◌∙◌, subst, add-one, append-nil, length-append, arith}
+use Rattle.std.proofs.lemmas.Bool.{false_from_ne_true, and_parts, and_from, not-true, eqb-true}
 use Rattle.std.proofs.lemmas.List.{take-append-drop}
 use Rattle.sal_text.specs.Tokens.{is_closed, is_string, is_in_line, is_empty}
 use Rattle.sal_text.specs.Reading.{closed_length}

@@ -1,23 +1,23 @@
 -- Where a part or a violation stands, it is found.
-use Rattle.std.proofs.Common.{◌≡◌, ℕ, zero, suc, ◌+◌, ◌<◌, ◌≤◌, Bool, true, false, not, ◌&&◌, ◌||◌, nat_eq, cond, is_none, List, [], ◌∷◌, ◌++◌, length, take, drop, Option, Some, None, refl, ap, sym, ◌∙◌, subst, add-one, append_assoc, length-append, arith}
+use Rattle.std.proofs.Common.{◌≡◌, ℕ, suc, ◌+◌, Bool, true, false, not, ◌&&◌, ◌||◌, nat_eq, cond, is_none, List, [], ◌∷◌, ◌++◌, length, take, Option, Some, None, refl, ap, sym, ◌∙◌, subst, add-one, append_assoc, length-append, arith}
 use Rattle.std.specs.List.{list_all}
 use Rattle.std.proofs.lemmas.Bool.{both_ways, false_from_ne_true, and_parts, and_from, and_left, or_parts, or_left, or_right, not-true, eqb-true, ne_eqb}
 use Rattle.std.proofs.lemmas.List.{take_at}
 use Rattle.std.proofs.Math.Bool.{and-true}
 use Rattle.sal_ast.specs.declared.lexeme.Kind.{Kind}
 use Rattle.sal_ast.specs.declared.lexeme.Kind.TheVariants as kind
-use Rattle.sal_ast.specs.Lexemes.{is_letter, is_digit, is_name_byte, is_name, is_word, is_identifier, is_number, is_sign}
+use Rattle.sal_ast.specs.Lexemes.{is_letter, is_digit, is_name_byte, is_name, is_word, is_number, is_sign}
 use Rattle.sal_text.specs.declared.token.LexRule.{LexRule}
 use Rattle.sal_text.specs.declared.token.LexRule.TheVariants as rule
 use Rattle.sal_text.specs.declared.piece.Piece.{Piece}
 use Rattle.sal_text.specs.declared.piece.Piece.TheVariants as piece
 use Rattle.sal_text.specs.Values.{bad_escape}
-use Rattle.sal_text.specs.Tokens.{is_blank, is_in_line, begins, is_digits, is_string, is_closed, has_form, is_form, is_kept, is_blanks, is_empty, IsLongest, begins_comment, IsToken, IsLine, IsBlock, holds_end, What, Blank, Line, Block, Of, Stands}
+use Rattle.sal_text.specs.Tokens.{is_blank, is_in_line, begins, is_digits, is_string, is_closed, is_form, is_blanks, IsLongest, begins_comment, IsToken, IsLine, IsBlock, holds_end, What, Blank, Line, Block, Of, Stands}
 use Rattle.sal_text.specs.Refusals.{Violates, IsStrange, IsUnclosedString, IsBadNumber, IsUnclosedComment, IsBadString}
 use Rattle.sal_text.specs.Reading.{run_length, block_length, closed_length, short_sign, long_sign, short_length, sign_length, name_piece, number_piece, escapes_judged, string_judged, string_piece, line_piece, block_judged, block_piece, sign_piece, begins_line, begins_block, other_piece, piece_from}
 use Rattle.sal_text.proofs.Runs.{run_over}
 use Rattle.sal_text.proofs.Blocks.{block_over, block_never}
-use Rattle.sal_text.proofs.Closings.{Closed, closed_is, closed_over}
+use Rattle.sal_text.proofs.Closings.{closed_is, closed_over}
 use Rattle.sal_text.proofs.Forms.{word_name, identifier_parts, sign_one, sign_two, sign_more, sign_plain, letter_no_blank, digit_no_blank, digit_no_letter, longest_next, all_more}
 
 -- what is found at the front of a text, if it has a front

@@ -1,12 +1,12 @@
 -- What the forms of tokens exclude: by its first byte a token is of one kind.
-use Rattle.std.proofs.Common.{◌≡◌, ◌⊎◌, inl, inr, ℕ, zero, suc, ◌<◌, ◌≤◌, Bool, true, false, not, ◌&&◌, ◌||◌, nat_eq, List, [], ◌∷◌, ◌++◌, length, take, refl, ap, sym, ◌∙◌, arith}
+use Rattle.std.proofs.Common.{◌≡◌, inl, inr, ℕ, zero, suc, Bool, true, false, not, ◌&&◌, ◌||◌, nat_eq, List, [], ◌∷◌, ◌++◌, take, refl, ap, ◌∙◌, arith}
 use Rattle.std.specs.List.{list_all, list_any}
 use Rattle.std.specs.Str.{bytes_eq}
 use Rattle.std.proofs.Math.Bool.{or_assoc, or-false, and-true, and-false}
-use Rattle.std.proofs.lemmas.Bool.{both_ways, false_from_ne_true, and_parts, and_from, and_left, and_right, or_from, or_left, or_right, or_cases, not-true, eqb-true}
+use Rattle.std.proofs.lemmas.Bool.{both_ways, false_from_ne_true, and_parts, and_from, and_left, and_right, or_from, or_cases, not-true, eqb-true}
 use Rattle.std.proofs.lemmas.Bool.Decides.{nat_tests}
-use Rattle.sal_ast.specs.Lexemes.{is_letter, is_digit, is_name_byte, is_name, is_word, is_identifier, is_sign, words, signs}
-use Rattle.sal_text.specs.Tokens.{is_blank, is_digits, is_string, is_form, has_form, IsLongest, begins, begins_comment}
+use Rattle.sal_ast.specs.Lexemes.{is_letter, is_digit, is_name, is_word, is_identifier, is_sign, words, signs}
+use Rattle.sal_text.specs.Tokens.{is_blank, is_digits, is_string, is_form, IsLongest, begins, begins_comment}
 use Rattle.sal_text.specs.Reading.{short_sign, long_sign}
 
 eq_at : (a b : ℕ) (xs ys : List ℕ) → (nat_eq a b && bytes_eq xs ys) ≡ true → (bytes_eq xs ys ≡ true → xs ≡ ys) → a ∷ xs ≡ b ∷ ys

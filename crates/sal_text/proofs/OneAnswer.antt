@@ -1,12 +1,10 @@
 -- A text is cut in one way alone.
-use Rattle.std.proofs.Common.{◌≡◌, inl, inr, ℕ, zero, suc, ◌+◌, ◌<◌, ◌≤◌, Bool, true, false, List, [], ◌∷◌, ◌++◌, length, take, drop, refl, ap, sym, ◌∙◌, subst, length-append, arith}
-use Rattle.std.specs.Str.{IsUtf8}
-use Rattle.std.proofs.lemmas.List.{take_at, drop_at}
+use Rattle.std.proofs.Common.{◌≡◌, inl, inr, ℕ, ◌+◌, ◌≤◌, List, [], ◌∷◌, ◌++◌, length, drop, refl, ap, sym, ◌∙◌, subst, arith}
+use Rattle.std.proofs.lemmas.List.{drop_at}
 use Rattle.sal_ast.specs.declared.lexeme.Kind.{Kind}
 use Rattle.sal_text.specs.declared.token.LexRule.{LexRule}
 use Rattle.sal_text.specs.declared.token.LexRule.TheVariants as rule
 use Rattle.sal_text.specs.declared.token.Token.{Token}
-use Rattle.sal_text.specs.declared.piece.Piece.{Piece}
 use Rattle.sal_text.specs.declared.piece.Piece.TheVariants as piece
 use Rattle.sal_text.specs.Tokens.{What, Blank, Line, Block, Of, Part, Stands, Cuts, with_token, tokens_from, Covers}
 use Rattle.sal_text.specs.Refusals.{IsNoText, Violates, IsCutShort, Refuses}

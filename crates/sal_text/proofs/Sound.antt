@@ -1,21 +1,17 @@
 -- What is found at the front of a text is a part of it, or a violation.
-use Rattle.std.proofs.Common.{◌≡◌, ℕ, zero, suc, ◌+◌, ◌-◌, ◌<◌, ◌≤◌, Bool, true, false, not, ◌&&◌, ◌||◌, nat_eq, cond, List, [], ◌∷◌, ◌++◌, length, take, drop, Option, Some, None, refl, ap, sym, ◌∙◌, subst, add-one, append_assoc, length-append, length-drop, get_or, arith}
-use Rattle.std.specs.List.{list_all}
-use Rattle.std.proofs.lemmas.Bool.{and_parts, and_from, and_left, and_right, or_parts, or_from, or_left, eqb-true, not_from_false}
-use Rattle.std.proofs.lemmas.Bool.Decides.{nat_tests}
+use Rattle.std.proofs.Common.{◌≡◌, ℕ, zero, suc, ◌+◌, ◌-◌, ◌<◌, Bool, true, false, not, ◌&&◌, ◌||◌, nat_eq, cond, List, [], ◌∷◌, ◌++◌, length, take, drop, Option, Some, None, refl, ap, sym, ◌∙◌, subst, add-one, append_assoc, length-append, length-drop, get_or, arith}
+use Rattle.std.proofs.lemmas.Bool.{and_parts, and_from, and_left, and_right, or_from, or_left, eqb-true, not_from_false}
 use Rattle.std.proofs.lemmas.List.{take-append-drop, take_at, take_rest}
-use Rattle.sal_ast.specs.declared.lexeme.Kind.{Kind}
 use Rattle.sal_ast.specs.declared.lexeme.Kind.TheVariants as kind
 use Rattle.sal_ast.specs.Lexemes.{is_letter, is_digit, is_name_byte, is_name, is_word, is_number, is_sign}
 use Rattle.sal_text.specs.declared.token.LexRule.TheVariants as rule
-use Rattle.sal_text.specs.declared.token.Token.{Token}
 use Rattle.sal_text.specs.declared.piece.Piece.{Piece}
 use Rattle.sal_text.specs.declared.piece.Piece.TheVariants as piece
 use Rattle.sal_text.specs.Values.{bad_escape}
-use Rattle.sal_text.specs.Tokens.{is_blank, is_in_line, begins, is_digits, is_string, is_closed, has_form, is_form, is_kept, IsLongest, begins_comment, IsToken, IsLine, IsBlock, holds_end, What, Blank, Line, Block, Of, Stands, with_token}
-use Rattle.sal_text.specs.Refusals.{Violates, IsStrange, IsUnclosedString, IsBadNumber, IsUnclosedComment, IsBadString}
+use Rattle.sal_text.specs.Tokens.{is_blank, is_in_line, begins, is_closed, has_form, is_form, is_kept, IsLongest, begins_comment, Blank, Line, Block}
+use Rattle.sal_text.specs.Refusals.{Violates}
 use Rattle.sal_text.specs.Found.{Between, Standing, Found}
-use Rattle.sal_text.specs.Reading.{run_length, block_length, closed_length, short_sign, long_sign, short_length, sign_length, name_piece, number_piece, escapes_judged, string_judged, string_piece, line_piece, block_judged, block_piece, sign_piece, begins_line, begins_block, other_piece, piece_from}
+use Rattle.sal_text.specs.Reading.{run_length, block_length, closed_length, short_sign, long_sign, short_length, name_piece, number_piece, escapes_judged, string_judged, string_piece, line_piece, block_judged, block_piece, sign_piece, begins_line, begins_block, other_piece, piece_from}
 use Rattle.sal_text.proofs.Runs.{run_all, run_ended, run_within}
 use Rattle.sal_text.proofs.Blocks.{Ended, block_is, block_open}
 use Rattle.sal_text.proofs.Closings.{Closed, closed_is, never_closed, closed_once}

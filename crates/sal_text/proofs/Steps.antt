@@ -1,5 +1,5 @@
 -- The cut of a text grows by a part at a time.
-use Rattle.std.proofs.Common.{◌≡◌, inl, inr, ℕ, zero, suc, ◌+◌, ◌-◌, ◌<◌, ◌≤◌, Bool, true, false, cond, nat_eq, List, [], ◌∷◌, ◌++◌, length, take, drop, Option, Some, None, refl, ap, sym, ◌∙◌, subst, length-drop, length-take, length-append, append-nil, add_assoc, arith}
+use Rattle.std.proofs.Common.{◌≡◌, ℕ, suc, ◌+◌, ◌-◌, ◌≤◌, Bool, true, false, cond, nat_eq, List, [], ◌∷◌, ◌++◌, length, take, drop, Some, None, refl, ap, sym, ◌∙◌, subst, length-drop, length-take, length-append, append-nil, add_assoc, arith}
 use Rattle.std.specs.Str.{IsUtf8}
 use Rattle.std.proofs.lemmas.List.{take-append-drop, drop-drop, drop_all}
 use Rattle.sal_ast.specs.declared.lexeme.Kind.{Kind}
@@ -7,8 +7,8 @@ use Rattle.sal_text.specs.declared.token.LexRule.{LexRule}
 use Rattle.sal_text.specs.declared.token.LexRule.TheVariants as rule
 use Rattle.sal_text.specs.declared.token.Token.{Token}
 use Rattle.sal_text.specs.Values.{bad_escape_from, is_escape}
-use Rattle.sal_text.specs.Tokens.{What, Blank, Line, Block, Of, Part, Stands, IsToken, Cuts, with_token, tokens_from, Covers}
-use Rattle.sal_text.specs.Refusals.{Violates, IsCutShort, Refuses, IsBadString}
+use Rattle.sal_text.specs.Tokens.{What, Blank, Line, Block, Of, Part, Stands, Cuts, with_token, tokens_from, Covers}
+use Rattle.sal_text.specs.Refusals.{Violates, IsCutShort, Refuses}
 use Rattle.sal_text.specs.Found.{Between, Standing}
 
 abbrev total : List Part → ℕ

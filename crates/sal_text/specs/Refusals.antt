@@ -1,5 +1,5 @@
 -- Why a text is refused, and where: its refusal stands at the first byte that no lexical rule lets pass.
-use Rattle.std.specs.Prelude.{◌≡◌, ℕ, ◌+◌, ◌-◌, ◌<◌, ◌≤◌, Bool, true, false, ◌&&◌, not, nat_eq, List, [], ◌∷◌, ◌++◌, length, take, Option, Some, None, ◌⊎◌}
+use Rattle.std.specs.Prelude.{◌≡◌, ℕ, ◌+◌, ◌-◌, ◌<◌, ◌≤◌, true, false, ◌&&◌, not, nat_eq, List, ◌∷◌, ◌++◌, length, take, Some, ◌⊎◌}
 use Rattle.std.specs.Str.{IsUtf8}
 use Rattle.std.specs.Str.Lossy.{utf8_valid_len}
 use Rattle.sal_ast.specs.Lexemes.{is_number}
@@ -10,8 +10,8 @@ use Rattle.sal_text.specs.declared.token.LexFault.TheVariants as fault
 use Rattle.sal_text.specs.Values.{bad_escape}
 use Rattle.sal_text.specs.Tokens.{is_blank, is_digits, is_string, is_form, IsLongest, holds_end, Part, Cuts, begins}
 
--- a text is too long, or isn't UTF-8; the place is the last byte that it may not have, or the first
--- one of the first ill-formed sequence
+-- the text has too many bytes, the first of them at 262,144, or it isn't UTF-8, and this is the first byte of
+-- the first ill-formed sequence
 abbrev pub IsNoText : List ℕ → ℕ → Type 0
 IsNoText text at =
     ((262144 < length text) × (at ≡ 262144))

@@ -1,5 +1,5 @@
 -- What is known of each token of a text.
-use Rattle.std.specs.Prelude.{◌≡◌, ℕ, ◌<◌, ◌≤◌, Bool, true, List, length, slice_get, slice_range, Some}
+use Rattle.std.specs.Prelude.{◌≡◌, ℕ, ◌<◌, ◌≤◌, true, List, length, slice_get, slice_range, Some}
 use Rattle.sal_ast.specs.Lexemes.{is_lexeme}
 use Rattle.sal_text.specs.declared.token.Token.{Token}
 use Rattle.sal_text.specs.Values.{lexeme_text}

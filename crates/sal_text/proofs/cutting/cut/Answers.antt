@@ -1,4 +1,4 @@
-use Rattle.std.proofs.Common.{◌≤◌, ◌+◌, length, arith, sym, subst}
+use Rattle.std.proofs.Common.{◌+◌, arith, sym, subst}
 use Rattle.sal_text.proofs.Steps.{Reached, reached_between, reached_token, refusal_within}
 use Rattle.sal_text.proofs.cutting.cut.Goals as goal
 
