@@ -1,5 +1,5 @@
 -- Why a run has its status.
-use Rattle.std.proofs.Common.{◌≡◌, ℕ, List, [], Option, Some, None, inl, inr, refl, arith, subst, sym, ◌∙◌, take}
+use Rattle.std.proofs.Common.{◌≡◌, ℕ, List, [], Option, inl, inr, refl, arith, subst, ◌∙◌, take}
 use Rattle.sal_ast.specs.declared.program.Program.{Program}
 use Rattle.salsa.specs.Form.{Spells}
 use Rattle.salsa.specs.Outside.{Held, OnFile, Rose}

@@ -1,5 +1,5 @@
 -- What a program that was read comes to.
-use Rattle.std.proofs.Common.{◌≡◌, ℕ, suc, ◌<◌, ◌≤◌, Bool, true, false, List, [], ◌∷◌, length, take, nat_lt, Option, Some, None, refl, ap, sym, ◌∙◌, subst, arith}
+use Rattle.std.proofs.Common.{◌≡◌, ℕ, ◌<◌, ◌≤◌, Bool, true, false, List, [], ◌∷◌, length, take, nat_lt, Option, Some, None, refl, ap, sym, ◌∙◌, subst, arith}
 use Rattle.std.proofs.lemmas.List.{length-take-le, take_all}
 use Rattle.std.proofs.lemmas.Bool.{ltb-true, ltb-false}
 use Rattle.sal_ast.specs.declared.program.Program.{Program}
@@ -9,7 +9,7 @@ use Rattle.sal_source.specs.Configuration.{Configuration}
 use Rattle.sal_source.specs.Step.{IsFinal}
 use Rattle.sal_source.specs.Run.{play, IsFirstBad}
 use Rattle.sal_source.specs.Stages.{print_count}
-use Rattle.sal_source.specs.Prints.{Print, Outline, program_of, trace, lines_of, IsShort, AreShort, Runs, ChainsOfPrintsRun}
+use Rattle.sal_source.specs.Prints.{Print, trace, IsShort, AreShort, Runs, ChainsOfPrintsRun}
 use Rattle.salsa.specs.Form.{IsPlainIfThere, ArePrints, Spells}
 use Rattle.salsa.specs.Outside.{Held, OnFile}
 use Rattle.salsa.specs.Top.{joined, run_setup, Ran, Judged}

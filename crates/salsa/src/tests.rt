@@ -92,68 +92,98 @@ fn programs_run_or_are_refused(rt: HostRuntime) -> Result<(), Fail> {
 }
 
 #[test]
-fn faults_have_statuses(rt: HostRuntime) -> Result<(), Fail> {
+fn what_cannot_be_run_has_a_line(rt: HostRuntime) -> Result<(), Fail> {
     let alloc = rt.alloc();
-    let missing = left_by(alloc, &["run", "q"], HELLO, List::new(alloc))?;
-    assert_eq!(rt; missing.status, 5);
-    assert_eq!(rt; missing.err.as_slice(), b"file fault\n".as_slice());
-    let wordless = left_by(alloc, &[], HELLO, List::new(alloc))?;
-    assert_eq!(rt; wordless.status, 1);
-    assert_eq!(rt; wordless.err.as_slice(), b"usage\n".as_slice());
-    let mut first = List::new(alloc);
-    first.push(0)?;
-    let closed = left_by(alloc, &["run", "p"], HELLO, first)?;
-    assert_eq!(rt; closed.status, 6);
-    assert_eq!(rt; closed.out.len(), 0);
-    assert_eq!(rt; closed.err.len(), 0);
+    let missing: &[&str] = &["run", "q"];
+    for (words, status, err) in [(missing, 5, "file fault\n"), (&[], 1, "usage\n")] {
+        let it = left_by(alloc, words, HELLO, List::new(alloc))?;
+        assert_eq!(rt; it.status, status);
+        assert_eq!(rt; it.out.len(), 0);
+        assert_eq!(rt; it.err.as_slice(), err.as_bytes());
+    }
     Ok(())
 }
 
 #[test]
-fn limits_are_met_exactly(rt: HostRuntime) -> Result<(), Fail> {
+fn a_closed_output_is_a_fault(rt: HostRuntime) -> Result<(), Fail> {
+    let alloc = rt.alloc();
+    let mut first = List::new(alloc);
+    first.push(0)?;
+    let it = left_by(alloc, &["run", "p"], HELLO, first)?;
+    assert_eq!(rt; it.status, 6);
+    assert_eq!(rt; it.out.len(), 0);
+    assert_eq!(rt; it.err.len(), 0);
+    Ok(())
+}
+
+#[test]
+fn a_chain_has_at_most_1024_stages(rt: HostRuntime) -> Result<(), Fail> {
     let alloc = rt.alloc();
     for (more, status, length) in [(1023, 0, 1024), (1024, 2, 0)] {
         let text = chain(alloc, more)?;
         let it = left_by(alloc, &["run", "p"], text.as_str(), List::new(alloc))?;
-        assert_eq!(rt; it.status, status, "{more}");
-        assert_eq!(rt; it.out.len(), length, "{more}");
-    }
-    for (bytes, status) in [(262_144, 0), (262_145, 2)] {
-        let text = padded(alloc, bytes)?;
-        let it = left_by(alloc, &["run", "p"], text.as_str(), List::new(alloc))?;
-        assert_eq!(rt; it.status, status, "{bytes}");
+        assert_eq!(rt; it.status, status);
+        assert_eq!(rt; it.out.len(), length);
     }
     Ok(())
 }
 
 #[test]
-fn real_files_and_streams_hold_what_they_took(rt: HostRuntime) -> Result<(), Fail> {
+fn a_text_has_at_most_262144_bytes(rt: HostRuntime) -> Result<(), Fail> {
     let alloc = rt.alloc();
+    for (bytes, status) in [(262_144, 0), (262_145, 2)] {
+        let text = padded(alloc, bytes)?;
+        let it = left_by(alloc, &["run", "p"], text.as_str(), List::new(alloc))?;
+        assert_eq!(rt; it.status, status);
+    }
+    Ok(())
+}
+
+#[test]
+fn a_real_stream_takes_bytes(rt: HostRuntime) -> Result<(), Fail> {
     let mut sink = RealSink {
         stream: fs::File::create(&rt, "taken")?,
         faults: 0,
     };
-    assert_eq!(rt; sink.put(b"Hello ").is_ok(), true);
-    assert_eq!(rt; sink.put(b"World!").is_ok(), true);
+    let first = sink.put(b"Hello ").is_ok();
+    let second = sink.put(b"World!").is_ok();
+    let taken = fs::read_to_string(&rt, "taken");
+    fs::remove_file(&rt, "taken")?;
+    assert_eq!(rt; (first, second), (true, true));
+    assert_eq!(rt; taken?.as_str(), "Hello World!");
+    Ok(())
+}
+
+#[test]
+fn real_files_hold_what_was_written(rt: HostRuntime) -> Result<(), Fail> {
+    let alloc = rt.alloc();
+    let name = Text::from_text(alloc, "written")?;
     let mut files = RealFiles {
         system: rt,
         faults: 0,
     };
-    let taken = files.read(alloc, &Text::from_text(alloc, "taken")?, 9);
-    let name = Text::from_text(alloc, "written")?;
-    let wrote = files.write(&name, b"bytes");
-    let back = files.read(alloc, &name, 100);
-    let missing = files.read(alloc, &Text::from_text(alloc, "missing")?, 100);
+    let wrote = files.write(&name, b"bytes").is_ok();
+    let back = files.read(alloc, &name, 4);
     let RealFiles { system, faults } = files;
-    assert_eq!(system; wrote.is_ok(), true);
-    assert_eq!(system; missing.is_err(), true);
-    assert_eq!(system; faults, 1);
-    match (taken, back) {
-        (Ok(taken), Ok(back)) => {
-            assert_eq!(system; taken.as_slice(), b"Hello Wor".as_slice());
-            assert_eq!(system; back.as_slice(), b"bytes".as_slice());
-        }
-        _ => assert!(system; false),
+    fs::remove_file(&system, "written")?;
+    assert_eq!(system; (wrote, faults), (true, 0));
+    match back {
+        Ok(back) => assert_eq!(system; back.as_slice(), b"byte".as_slice()),
+        Err(_) => assert!(system; false),
     }
+    Ok(())
+}
+
+#[test]
+fn a_missing_file_is_a_fault(rt: HostRuntime) -> Result<(), Fail> {
+    let alloc = rt.alloc();
+    let name = Text::from_text(alloc, "missing")?;
+    let mut files = RealFiles {
+        system: rt,
+        faults: 0,
+    };
+    let missing = files.read(alloc, &name, 4).is_err();
+    let RealFiles { system, faults } = files;
+    assert_eq!(system; (missing, faults), (true, 1));
     Ok(())
 }

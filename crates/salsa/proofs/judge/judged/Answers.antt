@@ -1,7 +1,6 @@
-use Rattle.std.proofs.Common.{◌≡◌, Some, Err, Option, Result, ap, sym, ◌∙◌, subst}
+use Rattle.std.proofs.Common.{Err, Option, ap, ◌∙◌, subst}
 use Rattle.sal_ast.specs.declared.program.Program.{Program}
 use Rattle.sal_source.specs.declared.state.PlayFault.{PlayFault}
-use Rattle.sal_source.specs.declared.state.PlayFault.TheVariants.{BadStep}
 use Rattle.sal_source.specs.Run.{Plays, IsFirstBad}
 use Rattle.salsa.specs.Form.{Read, Spells}
 use Rattle.salsa.specs.Top.{joined}

@@ -1,5 +1,4 @@
-use Rattle.std.proofs.Common.{rules, ◌≡◌, ℕ, List, Option, Some, None, ap, sym, ◌∙◌, subst, refl}
-use Rattle.salsa.specs.Outside.{OnFile}
+use Rattle.std.proofs.Common.{rules, ℕ, List, Option, Some, None, subst, refl}
 use Rattle.salsa.specs.Top.{Judged, Puts}
 use Rattle.salsa.proofs.Causes.{fault_cause, memory_cause, refused_cause, ran_cause, on_whole}
 use Rattle.salsa.proofs.top.run.Goals as goal
