@@ -1,8 +1,9 @@
 -- The texts of names and locators.
-use Rattle.std.specs.Prelude.{◌≡◌, ℕ, ◌≤◌, ◌==◌, nat_le, Bool, true, false, ◌&&◌, ◌||◌, IsTrue, List, [], ◌∷◌, ◌++◌, length, map, codes, Result, Ok, Err}
+use Rattle.std.specs.Prelude.{◌≡◌, ℕ, zero, ◌+◌, ◌*◌, ◌-◌, ◌≤◌, ◌==◌, nat_le, Bool, true, false, ◌&&◌, ◌||◌, if◌then◌else◌, IsTrue, List, [], ◌∷◌, ◌++◌, length, map, take, drop, codes, Option, Some, None, Result, Ok, Err}
 use Rattle.std.specs.Char.{to_ascii_lowercase, is_ascii_lowercase, is_ascii_uppercase, is_ascii_digit}
 use Rattle.std.specs.List.{list_all}
 use Rattle.std.specs.Fmt.{decimal}
+use Rattle.std.specs.Str.{bytes_eq}
 use Rattle.sal_value.specs.declared.name.Uan.{Uan}
 use Rattle.sal_value.specs.declared.name.Ual.{Ual}
 use Rattle.sal_value.specs.declared.name.NameFault.{NameFault}
@@ -146,6 +147,65 @@ is_uan u = is_host u.host && (is_port u.port && is_uan_path (47 ∷ u.path))
 unfoldable pub is_ual : Ual → Bool
 is_ual l = is_host l.host && is_port l.port
 
+-- ---- reading as a function
+
+-- the bytes before the first that passes the test
+abbrev pub until : (ℕ → Bool) → List ℕ → List ℕ
+until test [] = []
+until test (b ∷ bytes) = if test b then [] else b ∷ until test bytes
+
+-- the bytes from the first that passes the test
+abbrev pub onward : (ℕ → Bool) → List ℕ → List ℕ
+onward test [] = []
+onward test (b ∷ bytes) = if test b then b ∷ bytes else onward test bytes
+
+-- what digits write, behind a number
+abbrev pub number_behind : ℕ → List ℕ → ℕ
+number_behind n [] = n
+number_behind n (digit ∷ digits) = number_behind (n * 10 + (digit - 48)) digits
+
+abbrev pub port_written : ℕ → List ℕ → Option ℕ
+port_written n digits = if bytes_eq (decimal n) digits && is_port n then Some n else None
+
+-- the number that a port's part writes
+abbrev pub port_of : ℕ → List ℕ → Option ℕ
+port_of usual [] = Some usual
+port_of usual (colon ∷ digits) = port_written (number_behind 0 digits) digits
+
+-- what stands behind a scheme
+abbrev pub behind_scheme : List ℕ → List ℕ → Option (List ℕ)
+behind_scheme scheme text = if bytes_eq (lowered (take (length scheme) text)) scheme then Some (drop (length scheme) text) else None
+
+-- host, port and path of good parts
+abbrev pub good_parts : Kind → List ℕ → Option ℕ → List ℕ → Option (List ℕ × (ℕ × List ℕ))
+good_parts kind host None path = None
+good_parts kind host (Some port) path = if is_host host && kind.path path then Some (host, (port, path)) else None
+
+abbrev pub parts_behind : Kind → Option (List ℕ) → Option (List ℕ × (ℕ × List ℕ))
+parts_behind kind None = None
+parts_behind kind (Some text) =
+    good_parts kind (lowered (until ends_host text)) (port_of kind.usual (until is_slash (onward ends_host text))) (onward is_slash (onward ends_host text))
+
+abbrev pub without_slash : List ℕ → List ℕ
+without_slash [] = []
+without_slash (slash ∷ path) = path
+
+abbrev pub uan_from : Option (List ℕ × (ℕ × List ℕ)) → Option Uan
+uan_from None = None
+uan_from (Some parts) = Some (record { host = parts.0; port = parts.1.0; path = without_slash parts.1.1 })
+
+abbrev pub ual_from : Option (List ℕ × (ℕ × List ℕ)) → Option Ual
+ual_from None = None
+ual_from (Some parts) = Some (record { host = parts.0; port = parts.1.0 })
+
+-- the name that a text writes, if it writes one
+unfoldable pub uan_of : List ℕ → Option Uan
+uan_of text = uan_from (parts_behind name_kind (behind_scheme name_kind.scheme text))
+
+-- the locator that a text writes, if it writes one
+unfoldable pub ual_of : List ℕ → Option Ual
+ual_of text = ual_from (parts_behind locator_kind (behind_scheme locator_kind.scheme text))
+
 -- They are the names that reading gives, and each is read again from its canonical text. A text that is
 -- read is read in one way, and isn't refused.
 pub record NamesAreRead : Type 0 where
@@ -160,3 +220,10 @@ pub record LocatorsAreRead : Type 0 where
   pub again : (l : Ual) → IsTrue (is_ual l) → ReadsUal (ual_text l) (Ok l)
   pub one : (text : List ℕ) (l m : Ual) → ReadsUal text (Ok l) → ReadsUal text (Ok m) → l ≡ m
   pub sure : (text : List ℕ) (l : Ual) (f : NameFault) → ReadsUal text (Ok l) → ReadsUal text (Err f) → f ≡ fault.Memory
+
+-- The functions give what reading gives, and nothing where it refuses.
+pub record NamesAreGiven : Type 0 where
+  pub uan : (text : List ℕ) (u : Uan) → ReadsUan text (Ok u) → uan_of text ≡ Some u
+  pub no_uan : (text : List ℕ) (f : NameFault) → (f ≡ fault.Memory → ⊥) → ReadsUan text (Err f) → uan_of text ≡ None
+  pub ual : (text : List ℕ) (l : Ual) → ReadsUal text (Ok l) → ual_of text ≡ Some l
+  pub no_ual : (text : List ℕ) (f : NameFault) → (f ≡ fault.Memory → ⊥) → ReadsUal text (Err f) → ual_of text ≡ None
