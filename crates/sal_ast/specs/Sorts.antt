@@ -1,0 +1,320 @@
+-- The type of an expression, as it stands in the text. To which handler a message goes, and whether a
+-- join is void, hangs on it. What has no type, as `null` has none of its own, or isn't well typed, has none.
+use Rattle.std.specs.Prelude.{ℕ, zero, suc, ◌+◌, Bool, true, false, ◌||◌, nat_lt, if◌then◌else◌, List, [], ◌∷◌, ◌++◌, map, slice_get, codes, Option, Some, None, option_map}
+use Rattle.std.specs.List.{find}
+use Rattle.std.specs.Str.{bytes_eq}
+use Rattle.sal_value.specs.declared.value.Base.{Base}
+use Rattle.sal_value.specs.declared.value.Base.TheVariants as base
+use Rattle.sal_value.specs.declared.value.Sort.{Sort}
+use Rattle.sal_ast.specs.declared.program.Ident.{Ident}
+use Rattle.sal_ast.specs.declared.program.BaseName.{BaseName}
+use Rattle.sal_ast.specs.declared.program.BaseName.TheVariants as word
+use Rattle.sal_ast.specs.declared.program.TypeName.{TypeName}
+use Rattle.sal_ast.specs.declared.program.Behavior.{Behavior}
+use Rattle.sal_ast.specs.declared.expression.Op.{Op}
+use Rattle.sal_ast.specs.declared.expression.Op.TheVariants as op
+use Rattle.sal_ast.specs.declared.expression.Expr.{Expr}
+use Rattle.sal_ast.specs.declared.expression.Expr.TheOpen.{Expr-F, Suffix-F, At-F, Operand-F}
+use Rattle.sal_ast.specs.declared.expression.Expr.TheFolds.{fold-Expr}
+use Rattle.sal_ast.specs.declared.statement.Declare.{Declare}
+use Rattle.sal_ast.specs.declared.statement.ForInit.{ForInit}
+use Rattle.sal_ast.specs.declared.statement.ForInit.TheVariants as init
+use Rattle.sal_ast.specs.declared.statement.Aim.{Aim}
+use Rattle.sal_ast.specs.declared.statement.Aim.TheVariants as aim
+use Rattle.sal_ast.specs.declared.statement.Send.{Send}
+use Rattle.sal_ast.specs.declared.statement.Stmt.{Stmt}
+use Rattle.sal_ast.specs.declared.statement.Chain.{Chain}
+use Rattle.sal_ast.specs.declared.statement.Stage.TheOpen.{Stage-F, Stmt-F, Chain-F}
+use Rattle.sal_ast.specs.declared.statement.Stage.TheFolds.{fold-Stmt, fold-Chain}
+use Rattle.sal_ast.specs.Members.{Field, Handler, fields_of, behavior_named, handlers_at}
+
+-- ---- types
+
+-- a type has at most 8 pairs of brackets
+abbrev pub with_dims : Base → ℕ → Option Sort
+with_dims b dims = if nat_lt 8 dims then None else Some (record { base = b; dims = dims })
+
+abbrev pub plain : Base → Option Sort
+plain b = Some (record { base = b; dims = 0 })
+
+-- the behaviour of this name
+abbrev pub actor_named : List ℕ → List Behavior → Option Base
+actor_named name behaviors = option_map base.Actor (behavior_named name behaviors)
+
+abbrev pub base_of : BaseName → List Behavior → Option Base
+base_of word.Int behaviors = Some base.Int
+base_of word.Boolean behaviors = Some base.Bool
+base_of word.Str behaviors = Some base.Str
+base_of (word.Actor name) behaviors = actor_named name behaviors
+
+abbrev pub sort_with : Option Base → ℕ → Option Sort
+sort_with None dims = None
+sort_with (Some b) dims = with_dims b dims
+
+-- the type that a type's name means
+unfoldable pub type_sort : TypeName → List Behavior → Option Sort
+type_sort t behaviors = sort_with (base_of t.base behaviors) t.dims
+
+-- what an array's items are
+abbrev pub item_sort : Option Sort → Option Sort
+item_sort None = None
+item_sort (Some s) = item_at s.base s.dims
+  where
+    item_at : Base → ℕ → Option Sort
+    item_at b zero = None
+    item_at b (suc dims) = Some (record { base = b; dims = dims })
+
+-- the type of arrays of these
+abbrev pub array_sort : Option Sort → Option Sort
+array_sort None = None
+array_sort (Some s) = with_dims s.base (s.dims + 1)
+
+-- ---- what is in scope
+
+-- a local variable, parameter or token; a token has no type
+pub record Variable : Type 0 where
+  pub name : List ℕ
+  pub sort : Option Sort
+
+-- the behaviours of the program, the number of the behaviour that is looked at, and its locals, oldest first
+pub record Scope : Type 0 where
+  pub behaviors : List Behavior
+  pub mine : ℕ
+  pub locals : List Variable
+
+abbrev pub fields_in : Option Behavior → List Field
+fields_in None = []
+fields_in (Some b) = fields_of b
+
+abbrev pub own_fields : Scope → List Field
+own_fields s = fields_in (slice_get s.behaviors s.mine)
+
+abbrev pub sort_of_field : Option Field → List Behavior → Option Sort
+sort_of_field None behaviors = None
+sort_of_field (Some f) behaviors = type_sort f.sort behaviors
+
+-- the type of the field of this name
+unfoldable pub field_sort : List ℕ → Scope → Option Sort
+field_sort name s = sort_of_field (find (λ f. bytes_eq f.name name) (own_fields s)) s.behaviors
+
+abbrev pub sort_of_local : Option Variable → Option Sort → Option Sort
+sort_of_local None field = field
+sort_of_local (Some v) field = v.sort
+
+-- the type of the local of this name, or else of the field
+unfoldable pub name_sort : List ℕ → Scope → Option Sort
+name_sort name s = sort_of_local (find (λ v. bytes_eq v.name name) s.locals) (field_sort name s)
+
+-- ---- expressions
+
+abbrev pub Sorted : Type 0
+Sorted = Scope → Option Sort
+
+abbrev pub is_text_base : Base → ℕ → Bool
+is_text_base base.Str zero = true
+is_text_base _ _ = false
+
+abbrev pub is_text : Option Sort → Bool
+is_text None = false
+is_text (Some s) = is_text_base s.base s.dims
+
+-- what an operator gives on operands of these types
+abbrev pub operator_sort : Op → Option Sort → Option Sort → Option Sort
+operator_sort op.Add a b = if is_text a || is_text b then plain base.Str else plain base.Int
+operator_sort op.Sub a b = plain base.Int
+operator_sort op.Mul a b = plain base.Int
+operator_sort op.Div a b = plain base.Int
+operator_sort op.Rem a b = plain base.Int
+operator_sort _ a b = plain base.Bool
+
+abbrev pub level_sort : Option Sort → List (Op × Sorted) → Scope → Option Sort
+level_sort a [] s = a
+level_sort a (p ∷ ps) s = level_sort (operator_sort p.0 a (p.1 s)) ps s
+
+-- an index, or else `.length`
+abbrev pub suffix_sort : Bool → Option Sort → Option Sort
+suffix_sort true a = item_sort a
+suffix_sort false a = plain base.Int
+
+abbrev pub suffixed_sort : Option Sort → List Bool → Option Sort
+suffixed_sort a [] = a
+suffixed_sort a (p ∷ ps) = suffixed_sort (suffix_sort p a) ps
+
+abbrev pub sort_step : Expr-F Sorted Bool (Unit {0}) (Op × Sorted) → Sorted
+sort_step (Expr-F.Number n at) s = plain base.Int
+sort_step (Expr-F.Str text at) s = plain base.Str
+sort_step (Expr-F.Bool b at) s = plain base.Bool
+sort_step (Expr-F.Null at) s = None
+sort_step (Expr-F.Me at) s = plain (base.Actor s.mine)
+sort_step (Expr-F.Name name) s = name_sort name.text s
+sort_step (Expr-F.Own at name) s = field_sort name.text s
+sort_step (Expr-F.Paren at e) s = e s
+sort_step (Expr-F.Neg at e) s = plain base.Int
+sort_step (Expr-F.Not at e) s = plain base.Bool
+sort_step (Expr-F.Level first rest) s = level_sort (first s) rest s
+sort_step (Expr-F.Suffixed first rest) s = suffixed_sort (first s) rest
+sort_step (Expr-F.New at behavior args place) s = sort_with (actor_named behavior.text s.behaviors) 0
+sort_step (Expr-F.Make at sort size) s = type_sort sort s.behaviors
+sort_step (Expr-F.ListOf at sort items) s = type_sort sort s.behaviors
+sort_step (Expr-F.ByName at cast behavior name) s = sort_with (actor_named behavior.text s.behaviors) 0
+
+abbrev pub suffix_step : Suffix-F Sorted Bool (Unit {0}) (Op × Sorted) → Bool
+suffix_step (Suffix-F.Index at e) = true
+suffix_step (Suffix-F.Length at) = false
+
+abbrev pub at_step : At-F Sorted Bool (Unit {0}) (Op × Sorted) → Unit {0}
+at_step a = tt
+
+abbrev pub operand_step : Operand-F Sorted Bool (Unit {0}) (Op × Sorted) → Op × Sorted
+operand_step p = (p.op, p.value)
+
+-- the type of an expression
+unfoldable pub sort_of : Expr → Sorted
+sort_of = fold-Expr Sorted Bool (Unit {0}) (Op × Sorted) sort_step suffix_step at_step operand_step
+
+-- ---- messages
+
+-- the behaviour of an actor's type
+abbrev pub behavior_of : Option Sort → Option ℕ
+behavior_of None = None
+behavior_of (Some s) = actor_at s.base s.dims
+  where
+    actor_at : Base → ℕ → Option ℕ
+    actor_at (base.Actor n) zero = Some n
+    actor_at _ _ = None
+
+-- the behaviour of the actor that a message goes to; the output has none
+abbrev pub target_behavior : Aim → Scope → Option ℕ
+target_behavior aim.Own s = Some s.mine
+target_behavior (aim.Output at) s = None
+target_behavior (aim.Actor e) s = behavior_of (sort_of e s)
+
+-- without a result, `void`
+abbrev pub result_sort : Option TypeName → List Behavior → Option Sort
+result_sort None behaviors = plain base.Void
+result_sort (Some t) behaviors = type_sort t behaviors
+
+abbrev pub handler_result : Option Handler → List Behavior → Option Sort
+handler_result None behaviors = None
+handler_result (Some h) behaviors = result_sort h.result behaviors
+
+abbrev pub declared_result : List ℕ → Option ℕ → List Behavior → Option Sort
+declared_result name behavior behaviors = handler_result (find (λ h. bytes_eq h.name name) (handlers_at behaviors behavior)) behaviors
+
+-- every actor understands `migrate`, whose result is void
+abbrev pub actor_result : List ℕ → Option ℕ → List Behavior → Option Sort
+actor_result name behavior behaviors = if bytes_eq name (codes "migrate") then plain base.Void else declared_result name behavior behaviors
+
+abbrev pub aim_result : Aim → List ℕ → Scope → Option Sort
+aim_result (aim.Output at) name s = plain base.Void
+aim_result aim.Own name s = actor_result name (Some s.mine) s.behaviors
+aim_result (aim.Actor e) name s = actor_result name (behavior_of (sort_of e s)) s.behaviors
+
+-- what a message's reply is
+unfoldable pub message_result : Send → Sorted
+message_result m s = aim_result m.aim m.handler.text s
+
+-- ---- chains and joins
+
+-- what is in scope behind a statement, and the result of the first chain in it, if there is one
+pub record Seen : Type 0 where
+  pub scope : Scope
+  pub result : Option (Option Sort)
+
+abbrev pub Sees : Type 0
+Sees = Scope → Seen
+
+abbrev pub first_of : Option (Option Sort) → Option (Option Sort) → Option (Option Sort)
+first_of None later = later
+first_of (Some r) later = Some r
+
+abbrev pub with_local : List ℕ → Option Sort → Scope → Scope
+with_local name sort s = record s { locals = s.locals ++ record { name = name; sort = sort } ∷ [] }
+
+abbrev pub nothing_in : Scope → Seen
+nothing_in s = record { scope = s; result = None }
+
+-- what a part declares is out of scope behind it
+abbrev pub inside : Sees → Sees
+inside m s = record { scope = s; result = (m s).result }
+
+abbrev pub together : Sees → Sees → Sees
+together m n s = record { scope = (n (m s).scope).scope; result = first_of (m s).result (n (m s).scope).result }
+
+abbrev pub sees_all : List Sees → Sees
+sees_all [] s = nothing_in s
+sees_all (m ∷ ms) s = together m (sees_all ms) s
+
+abbrev pub sees_else : Option Sees → Sees
+sees_else None s = nothing_in s
+sees_else (Some m) s = inside m s
+
+abbrev pub sees_declared : Declare → Sees
+sees_declared d s = nothing_in (with_local d.name.text (type_sort d.sort s.behaviors) s)
+
+abbrev pub sees_begun : ForInit → Sees
+sees_begun init.Nothing s = nothing_in s
+sees_begun (init.Declare d) s = sees_declared d s
+sees_begun (init.Assign a) s = nothing_in s
+
+-- the result of a join whose own chains have this result: void, or an array of it
+abbrev pub join_sort : Option Sort → Option Sort
+join_sort None = None
+join_sort (Some s) = if is_void_base s.base then Some s else array_sort (Some s)
+  where
+    is_void_base : Base → Bool
+    is_void_base base.Void = true
+    is_void_base _ = false
+
+abbrev pub join_result : Option (Option Sort) → Option Sort
+join_result None = None
+join_result (Some r) = join_sort r
+
+-- the result of a chain is that of its last stage
+abbrev pub last_result : Option Sort → List Sorted → Scope → Option Sort
+last_result before [] s = before
+last_result before (m ∷ ms) s = last_result (m s) ms s
+
+abbrev pub see_stage : Stage-F Sorted Sees Sorted → Sorted
+see_stage (Stage-F.Message m) s = message_result m s
+see_stage (Stage-F.Join at body) s = join_result (sees_all body s).result
+
+abbrev pub see_stmt : Stmt-F Sorted Sees Sorted → Sees
+see_stmt (Stmt-F.Empty at) s = nothing_in s
+see_stmt (Stmt-F.Block at list) s = inside (sees_all list) s
+see_stmt (Stmt-F.Declare d) s = sees_declared d s
+see_stmt (Stmt-F.Assign a) s = nothing_in s
+see_stmt (Stmt-F.If at test first second) s = inside (together (inside first) (sees_else second)) s
+see_stmt (Stmt-F.While at test body) s = inside body s
+see_stmt (Stmt-F.For at first test next body) s = inside (together (sees_begun first) body) s
+see_stmt (Stmt-F.Return at value) s = nothing_in s
+see_stmt (Stmt-F.Token at name chain) s = nothing_in (with_local name.text None s)
+see_stmt (Stmt-F.Chain chain passed) s = record { scope = s; result = Some (chain s) }
+
+abbrev pub see_chain : Chain-F Sorted Sees Sorted → Sorted
+see_chain c = last_result None c.stages
+
+-- what a statement adds to the scope, and the result of the first chain in it; the chains inside a join
+-- are that join's own
+unfoldable pub sees : Stmt → Sees
+sees = fold-Stmt Sorted Sees Sorted see_stage see_stmt see_chain
+
+-- the result of a chain
+unfoldable pub result_of : Chain → Sorted
+result_of = fold-Chain Sorted Sees Sorted see_stage see_stmt see_chain
+
+abbrev pub is_void : Option Sort → Bool
+is_void None = false
+is_void (Some s) = is_void_alone s.base s.dims
+  where
+    is_void_alone : Base → ℕ → Bool
+    is_void_alone base.Void zero = true
+    is_void_alone _ _ = false
+
+abbrev pub is_void_result : Option (Option Sort) → Bool
+is_void_result None = false
+is_void_result (Some r) = is_void r
+
+-- whether a join with this block is void: its own chains have no result
+unfoldable pub is_void_join : List Stmt → Scope → Bool
+is_void_join body s = is_void_result (sees_all (map sees body) s).result

@@ -1,0 +1,61 @@
+-- Which calls and states fit a program, and what a program means.
+use Rattle.std.specs.Prelude.{ℕ, Bool, true, false, ◌&&◌, nat_eq, if◌then◌else◌, List, [], ◌∷◌, map, slice_get, Option, Some, None}
+use Rattle.sal_value.specs.declared.value.Base.TheVariants as base
+use Rattle.sal_value.specs.declared.value.Sort.{Sort}
+use Rattle.sal_value.specs.declared.value.Value.{Value}
+use Rattle.sal_value.specs.Membership.{belongs}
+use Rattle.sal_value.specs.Spelling.{is_legal}
+use Rattle.sal_ast.specs.declared.program.TypeName.{TypeName}
+use Rattle.sal_ast.specs.declared.program.Behavior.{Behavior}
+use Rattle.sal_ast.specs.declared.program.Program.{Program}
+use Rattle.sal_ast.specs.Members.{Handler, fields_of, handlers_of}
+use Rattle.sal_ast.specs.Sorts.{type_sort}
+use Rattle.sal_handler.specs.Handler.{handle, begin}
+use Rattle.sal_handler.specs.Calls.{Meaning}
+
+-- a legal value of the type
+abbrev pub is_of : Option Sort → Value → Bool
+is_of None v = false
+is_of (Some sort) v = is_legal v && belongs v sort
+
+-- as many legal values as there are types, each of its own
+abbrev pub are_of : List (Option Sort) → List Value → Bool
+are_of [] [] = true
+are_of (sort ∷ sorts) (v ∷ vs) = is_of sort v && are_of sorts vs
+are_of _ _ = false
+
+abbrev pub sorts_of : List Behavior → List TypeName → List (Option Sort)
+sorts_of behaviors = map (λ t. type_sort t behaviors)
+
+abbrev pub fits_handler : Option Handler → List Behavior → List Value → Bool
+fits_handler None behaviors args = false
+fits_handler (Some h) behaviors args = are_of (sorts_of behaviors (map (λ p. p.sort) h.params)) args
+
+abbrev pub fits_behavior : Option Behavior → List Behavior → ℕ → List Value → Bool
+fits_behavior None behaviors handler args = false
+fits_behavior (Some b) behaviors handler args = fits_handler (slice_get (handlers_of b) handler) behaviors args
+
+-- `migrate` takes one text
+abbrev pub text : Option Sort
+text = Some (record { base = base.Str; dims = 0 })
+
+abbrev pub is_migrate : ℕ → ℕ → Bool
+is_migrate behavior handler = nat_eq behavior 65535 && nat_eq handler 65535
+
+-- a call of a handler that the program has, or of `migrate`, with legal values of the parameters' types
+unfoldable pub fits_call : Program → ℕ → ℕ → List Value → Bool
+fits_call p behavior handler args =
+    if is_migrate behavior handler then are_of (text ∷ []) args
+    else fits_behavior (slice_get p.behaviors behavior) p.behaviors handler args
+
+abbrev pub fits_fields : Option Behavior → List Behavior → List Value → Bool
+fits_fields None behaviors fields = false
+fits_fields (Some b) behaviors fields = are_of (sorts_of behaviors (map (λ f. f.sort) (fields_of b))) fields
+
+-- a state of an actor of a behaviour that the program has, with legal values of the fields' types
+unfoldable pub fits_state : Program → ℕ → List Value → Bool
+fits_state p behavior fields = fits_fields (slice_get p.behaviors behavior) p.behaviors fields
+
+-- what a program means
+abbrev pub meaning_of : Program → Meaning
+meaning_of p = record { outcome = handle p; begun = begin p; fits_call = fits_call p; fits_state = fits_state p }

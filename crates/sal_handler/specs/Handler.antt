@@ -1,0 +1,208 @@
+-- One handler as a whole, the making of actors, and how a program begins.
+use Rattle.std.specs.Prelude.{ℕ, ◌+◌, Bool, true, false, ◌&&◌, nat_eq, nat_lt, if◌then◌else◌, List, [], ◌∷◌, length, map, filter_map, slice_get, slice_set, codes, Option, Some, None, Ok, Err}
+use Rattle.std.specs.List.{position}
+use Rattle.std.specs.Str.{bytes_eq}
+use Rattle.sal_value.specs.declared.name.Ual.{Ual}
+use Rattle.sal_value.specs.declared.name.Name.TheVariants.{Outside}
+use Rattle.sal_value.specs.declared.value.Value.{Value}
+use Rattle.sal_value.specs.declared.value.Value.TheVariants.{Null}
+use Rattle.sal_value.specs.Names.{ual_of}
+use Rattle.sal_ast.specs.declared.expression.Expr.{Expr}
+use Rattle.sal_ast.specs.declared.program.BaseName.{BaseName}
+use Rattle.sal_ast.specs.declared.program.BaseName.TheVariants as base
+use Rattle.sal_ast.specs.declared.program.TypeName.{TypeName}
+use Rattle.sal_ast.specs.declared.program.Param.{Param}
+use Rattle.sal_ast.specs.declared.program.Behavior.{Behavior}
+use Rattle.sal_ast.specs.declared.program.Program.{Program}
+use Rattle.sal_ast.specs.Members.{Field, Handler, fields_of, handlers_of, constructor_of, numbered}
+use Rattle.sal_ast.specs.Sorts.{type_sort}
+use Rattle.sal_mail.specs.declared.fault.Trap.TheVariants.{TooManyMessages, NullTarget, BadLocator}
+use Rattle.sal_mail.specs.declared.message.Reply.TheVariants as reply
+use Rattle.sal_mail.specs.declared.effects.Answer.{Answer}
+use Rattle.sal_mail.specs.declared.effects.Answer.TheVariants as answer
+use Rattle.sal_mail.specs.declared.effects.Effects.{Effects}
+use Rattle.sal_handler.specs.declared.state.Flow.{Flow}
+use Rattle.sal_handler.specs.declared.state.Flow.TheVariants.{Next, Returned, Passed}
+use Rattle.sal_handler.specs.declared.state.Held.TheVariants as held
+use Rattle.sal_handler.specs.declared.state.Local.{Local}
+use Rattle.sal_handler.specs.declared.state.State.{State}
+use Rattle.sal_handler.specs.declared.turn.Outcome.{Outcome}
+use Rattle.sal_handler.specs.declared.turn.Outcome.TheVariants as outcome
+use Rattle.sal_handler.specs.declared.turn.Began.{Began}
+use Rattle.sal_handler.specs.declared.turn.Began.TheVariants as began
+use Rattle.sal_handler.specs.Evaluation.{Checked, and_then, Eval, ◌>>=◌, ◌>>◌, pure}
+use Rattle.sal_handler.specs.Values.{default_of, text_of, item_at}
+use Rattle.sal_handler.specs.Scopes.{Reads}
+use Rattle.sal_handler.specs.Expressions.{Make, eval}
+use Rattle.sal_handler.specs.Statements.{block}
+use Rattle.sal_handler.specs.Calls.{Call}
+
+-- ---- how a body starts
+
+abbrev pub parameter : List Behavior → Param → Value → Local
+parameter behaviors p v = record { name = p.name.text; sort = type_sort p.sort behaviors; held = held.Value v }
+
+-- parameters hold the arguments, and null where there are too few
+abbrev pub parameters : List Behavior → List Param → List Value → List Local
+parameters behaviors [] args = []
+parameters behaviors (p ∷ ps) [] = parameter behaviors p Null ∷ parameters behaviors ps []
+parameters behaviors (p ∷ ps) (v ∷ vs) = parameter behaviors p v ∷ parameters behaviors ps vs
+
+abbrev pub started : List Local → List Value → ℕ → State
+started locals fields serial = record { locals = locals; fields = fields; turns = 0; serial = serial; messages = []; joins = []; places = 0; actors = []; creations = [] }
+
+-- ---- new actors
+
+-- initialisers and constructors make no actor, and of what they do only the fields are left
+abbrev pub alone : List Behavior → ℕ → Reads
+alone behaviors n = record { me = Outside 0; reply = reply.Nobody; behaviors = behaviors; mine = n; within = []; fresh = []; make = None }
+
+abbrev pub initialised : Option Expr → ℕ → Reads → Eval (Unit {0})
+initialised None i r = pure tt
+initialised (Some e) i r = eval e r >>= (λ v. λ s. Ok (tt, record s { fields = slice_set s.fields i v }))
+
+-- the initialisers in order, from the field with this place on
+abbrev pub all_initialised : List Field → ℕ → Reads → Eval (Unit {0})
+all_initialised [] i r = pure tt
+all_initialised (f ∷ fs) i r = initialised f.init i r >> all_initialised fs (i + 1) r
+
+abbrev pub default_fields : List Field → List Value
+default_fields = map (λ f. default_of f.sort)
+
+-- the fields after the initialisers
+abbrev pub initial_fields : Behavior → Reads → Checked (List Value)
+initial_fields b r = and_then (all_initialised (fields_of b) 0 r (started [] (default_fields (fields_of b)) 0)) (λ x. Ok x.1.fields)
+
+-- the fields after the constructor, if there is one
+abbrev pub constructed : Option Handler → List Value → Reads → List Value → Checked (List Value)
+constructed None args r fields = Ok fields
+constructed (Some c) args r fields = and_then (block c.body r (started (parameters r.behaviors c.params args) fields 0)) (λ x. Ok x.1.fields)
+
+abbrev pub built : Option Behavior → List Value → Reads → Checked (List Value)
+built None args r = Ok []
+built (Some b) args r = and_then (initial_fields b r) (constructed (constructor_of b) args r)
+
+-- the fields of a new actor of this behaviour
+unfoldable pub new_fields : List Behavior → Make
+new_fields behaviors n args = built (slice_get behaviors n) args (alone behaviors n)
+
+-- ---- a handler
+
+abbrev pub answer_of : Flow → Answer
+answer_of Next = answer.Value Null
+answer_of (Returned v) = answer.Value v
+answer_of Passed = answer.Passed
+
+abbrev pub effects_of : Flow → State → ℕ → Effects
+effects_of flow s fresh = record {
+  fields = s.fields;
+  answer = answer_of flow;
+  messages = s.messages;
+  joins = s.joins;
+  actors = s.actors;
+  creations = s.creations;
+  serial = s.serial;
+  fresh = fresh + length s.actors;
+}
+
+abbrev pub reads : Program → Call → Reads
+reads p c = record { me = c.me; reply = c.reply; behaviors = p.behaviors; mine = c.behavior; within = []; fresh = c.names; make = Some (new_fields p.behaviors) }
+
+-- what changes nothing and answers null
+abbrev pub unchanged : Call → Effects
+unchanged c = effects_of Next (started [] c.fields c.serial) c.fresh
+
+abbrev pub ran : Option Handler → Program → Call → Checked Effects
+ran None p c = Ok (unchanged c)
+ran (Some h) p c = and_then (block h.body (reads p c) (started (parameters p.behaviors h.params c.args) c.fields c.serial)) (λ x. Ok (effects_of x.0 x.1 c.fresh))
+
+-- a behaviour or handler that the program doesn't have changes nothing
+abbrev pub ran_in : Option Behavior → Program → Call → Checked Effects
+ran_in None p c = Ok (unchanged c)
+ran_in (Some b) p c = ran (slice_get (handlers_of b) c.handler) p c
+
+abbrev pub moved : Option Ual → Call → Checked Effects
+moved (Some l) c = Ok (unchanged c)
+moved None c = Err BadLocator
+
+-- `migrate` does nothing here but trap on a text that is no locator
+abbrev pub migrated : Call → Checked Effects
+migrated c = moved (ual_of (text_of (item_at c.args 0))) c
+
+abbrev pub ran_from : Program → Call → Checked Effects
+ran_from p c = if nat_eq c.handler 65535 then migrated c else ran_in (slice_get p.behaviors c.behavior) p c
+
+-- fewer than 4,096 numbers are left
+abbrev pub run : Program → Call → Checked Effects
+run p c = if nat_lt 18446744073709547520 c.serial then Err TooManyMessages else ran_from p c
+
+abbrev pub outcome_of : Checked Effects → Outcome
+outcome_of (Ok e) = outcome.Done e
+outcome_of (Err k) = outcome.Trap k
+
+-- what one handler does: its effects, or the trap that undoes it
+unfoldable pub handle : Program → Call → Outcome
+handle p c = outcome_of (run p c)
+
+-- ---- the start
+
+abbrev pub is_string : BaseName → Bool
+is_string base.Str = true
+is_string base.Int = false
+is_string base.Boolean = false
+is_string (base.Actor name) = false
+
+-- `String[] x`
+abbrev pub is_words : List Param → Bool
+is_words (x ∷ []) = is_string x.sort.base && nat_eq x.sort.dims 1
+is_words _ = false
+
+abbrev pub is_void : Option TypeName → Bool
+is_void None = true
+is_void (Some t) = false
+
+-- `void act(String[] x)`
+abbrev pub is_act : Handler → Bool
+is_act h = is_void h.result && (bytes_eq h.name (codes "act") && is_words h.params)
+
+-- the number of a behaviour's first handler `act`
+abbrev pub act_in : Behavior → Option ℕ
+act_in b = numbered (position is_act (handlers_of b))
+
+abbrev pub start_at : ℕ → Option ℕ → Option (ℕ × ℕ) → Option (ℕ × ℕ)
+start_at n (Some handler) later = Some (n, handler)
+start_at n None later = later
+
+abbrev pub start_from : ℕ → List Behavior → Option (ℕ × ℕ)
+start_from n [] = None
+start_from n (b ∷ bs) = if nat_lt n 65535 then start_at n (act_in b) (start_from (n + 1) bs) else None
+
+-- the first behaviour with a handler `act`, and the number of this handler
+unfoldable pub start_of : Program → Option (ℕ × ℕ)
+start_of p = start_from 0 p.behaviors
+
+-- the constructor runs where it has no parameters
+abbrev pub without_params : Option Handler → Option Handler
+without_params None = None
+without_params (Some c) = if_none c.params c
+  where
+    if_none : List Param → Handler → Option Handler
+    if_none [] h = Some h
+    if_none (p ∷ ps) h = None
+
+abbrev pub start_fields : Option Behavior → Reads → Checked (List Value)
+start_fields None r = Ok []
+start_fields (Some b) r = and_then (initial_fields b r) (constructed (without_params (constructor_of b)) [] r)
+
+abbrev pub began_with : ℕ → ℕ → Checked (List Value) → Began
+began_with behavior handler (Ok fields) = began.Actor behavior handler fields
+began_with behavior handler (Err k) = began.Trap k
+
+-- a program without a handler `act` has no start actor, which typing refuses
+abbrev pub begun_at : Option (ℕ × ℕ) → Program → Began
+begun_at None p = began.Trap NullTarget
+begun_at (Some at) p = began_with at.0 at.1 (start_fields (slice_get p.behaviors at.0) (alone p.behaviors at.0))
+
+-- the start actor
+unfoldable pub begin : Program → Began
+begin p = begun_at (start_of p) p

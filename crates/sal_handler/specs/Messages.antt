@@ -1,0 +1,216 @@
+-- What one message stage does.
+use Rattle.std.specs.Prelude.{ℕ, ℤ, pos, ◌==◌, Bool, nat_lt, if◌then◌else◌, List, [], ◌∷◌, ◌++◌, length, filter_map, codes, Option, Some, None, Ok}
+use Rattle.std.specs.List.{list_any}
+use Rattle.std.specs.Str.{bytes_eq}
+use Rattle.sal_value.specs.declared.name.Name.{Name}
+use Rattle.sal_value.specs.declared.value.Value.{Value, out-Value}
+use Rattle.sal_value.specs.declared.value.Value.TheOpen.{Value-F}
+use Rattle.sal_value.specs.declared.value.Value.TheVariants.{Ref, Null}
+use Rattle.sal_ast.specs.declared.program.Ident.{Ident}
+use Rattle.sal_ast.specs.declared.expression.Expr.{Expr, out-Expr}
+use Rattle.sal_ast.specs.declared.expression.Suffix.{Suffix}
+use Rattle.sal_ast.specs.declared.expression.At.{At}
+use Rattle.sal_ast.specs.declared.expression.Operand.{Operand}
+use Rattle.sal_ast.specs.declared.expression.Expr.TheOpen.{Expr-F}
+use Rattle.sal_ast.specs.declared.statement.Send.{Send}
+use Rattle.sal_ast.specs.declared.statement.Arg.{Arg}
+use Rattle.sal_ast.specs.declared.statement.Arg.TheVariants as arg
+use Rattle.sal_ast.specs.declared.statement.Aim.{Aim}
+use Rattle.sal_ast.specs.declared.statement.Aim.TheVariants as aim
+use Rattle.sal_ast.specs.declared.statement.Property.{Property}
+use Rattle.sal_ast.specs.declared.statement.Property.TheVariants as property
+use Rattle.sal_ast.specs.Members.{handler_named, handlers_at}
+use Rattle.sal_ast.specs.Sorts.{target_behavior}
+use Rattle.sal_mail.specs.declared.fault.Trap.TheVariants.{NullTarget, BadDelay}
+use Rattle.sal_mail.specs.declared.message.Target.{Target}
+use Rattle.sal_mail.specs.declared.message.Target.TheVariants as target
+use Rattle.sal_mail.specs.declared.message.Piece.{Piece}
+use Rattle.sal_mail.specs.declared.message.Piece.TheVariants as piece
+use Rattle.sal_mail.specs.declared.message.Reply.{Reply}
+use Rattle.sal_mail.specs.declared.message.Reply.TheVariants as reply
+use Rattle.sal_mail.specs.declared.message.Message.{Message}
+use Rattle.sal_handler.specs.declared.state.End.{End}
+use Rattle.sal_handler.specs.declared.state.End.TheVariants as end
+use Rattle.sal_handler.specs.declared.state.Inside.{Inside}
+use Rattle.sal_handler.specs.declared.state.State.{State}
+use Rattle.sal_handler.specs.Evaluation.{Eval, ◌>>=◌, pure, trap}
+use Rattle.sal_handler.specs.Scopes.{Reads, scope_of, token_named, next_number, next_place}
+use Rattle.sal_handler.specs.Expressions.{eval}
+
+-- ---- target, arguments and delay, in the order of the text
+
+-- none stands for the output
+abbrev pub aimed : Aim → Reads → Eval (Option Value)
+aimed aim.Own r = pure (Some (Ref r.me))
+aimed (aim.Output at) r = pure None
+aimed (aim.Actor e) r = eval e r >>= (λ v. pure (Some v))
+
+-- a whole argument that is a token's name is that token
+abbrev pub name_alone : Expr-F Expr Suffix At Operand → Option Ident
+name_alone (Expr-F.Name name) = Some name
+name_alone _ = None
+
+abbrev pub token_by : Option Ident → State → Option ℕ
+token_by None s = None
+token_by (Some name) s = token_named name.text s
+
+unfoldable pub token_of : Expr → State → Option ℕ
+token_of e s = token_by (name_alone (out-Expr e)) s
+
+abbrev pub piece_by : Option ℕ → Expr → Reads → Eval Piece
+piece_by (Some n) e r = pure (piece.Token n)
+piece_by None e r = eval e r >>= (λ v. pure (piece.Known v))
+
+-- `token` is the reply of the stage before; in a chain's first stage, which typing forbids, it is null
+abbrev pub piece_before : Option ℕ → Piece
+piece_before (Some n) = piece.Token n
+piece_before None = piece.Known Null
+
+abbrev pub piece_of : Arg → Reads → Option ℕ → Eval Piece
+piece_of (arg.Token at) r before = pure (piece_before before)
+piece_of (arg.Expr e) r before = λ s. piece_by (token_of e s) e r s
+
+-- the arguments, behind those that are done
+abbrev pub pieces : List Arg → Reads → Option ℕ → List Piece → Eval (List Piece)
+pieces [] r before done = pure done
+pieces (a ∷ more) r before done = piece_of a r before >>= (λ p. pieces more r before (done ++ p ∷ []))
+
+-- the value of `delay`, if there is one
+abbrev pub delays : List Property → Option Value → Reads → Eval (Option Value)
+delays [] last r = pure last
+delays (property.Delay at time ∷ more) last r = eval time r >>= (λ v. delays more (Some v) r)
+delays (property.WaitFor at names ∷ more) last r = delays more last r
+
+-- none where the target is null
+abbrev pub target_in : Value-F Value → Option Target
+target_in (Value-F.Ref n) = Some (target.Actor n)
+target_in _ = None
+
+abbrev pub target_of : Option Value → Option Target
+target_of None = Some target.Output
+target_of (Some v) = target_in (out-Value v)
+
+-- 0 to 86,400,000 ms, and 0 without a delay
+abbrev pub delay_in : Value-F Value → Option ℕ
+delay_in (Value-F.Int (pos n)) = if nat_lt 86400000 n then None else Some n
+delay_in _ = None
+
+abbrev pub delay_of : Option Value → Option ℕ
+delay_of None = Some 0
+delay_of (Some v) = delay_in (out-Value v)
+
+-- ---- what it waits for
+
+-- what isn't a token's name is waited for by nobody
+abbrev pub waits : List Ident → State → List ℕ
+waits names s = filter_map (λ name. token_named name.text s) names
+
+abbrev pub waits_in : Property → State → List ℕ
+waits_in (property.Delay at time) s = []
+waits_in (property.WaitFor at names) s = waits names s
+
+abbrev pub waited : List Property → State → List ℕ
+waited [] s = []
+waited (p ∷ more) s = waits_in p s ++ waited more s
+
+abbrev pub if_any : Option ℕ → List ℕ
+if_any None = []
+if_any (Some n) = n ∷ []
+
+-- the stages directly before the joins whose blocks hold the message, from the innermost outwards
+abbrev pub befores : List Inside → List ℕ
+befores [] = []
+befores (i ∷ is) = if_any i.before ++ befores is
+
+-- of repeats the first one stays
+abbrev pub with_one : List ℕ → ℕ → List ℕ
+with_one done n = if list_any (λ m. m == n) done then done else done ++ n ∷ []
+
+abbrev pub firsts : List ℕ → List ℕ → List ℕ
+firsts done [] = done
+firsts done (n ∷ ns) = firsts (with_one done n) ns
+
+-- the numbers of the `waitfor` tokens, then of the stage before, then of the stages before the joins around
+unfoldable pub after_of : List Property → Option ℕ → List Inside → State → List ℕ
+after_of properties before within s = firsts (firsts (firsts [] (waited properties s)) (if_any before)) (befores within)
+
+-- ---- to whom the reply is owed
+
+-- to the next place of the innermost join
+abbrev pub owed_place : List Inside → Reads → Eval Reply
+owed_place [] r = pure reply.Nobody
+owed_place (i ∷ is) r = next_place >>= (λ n. pure (reply.Place r.me i.join n))
+
+-- the reply of the stage with this number
+abbrev pub owed : End → Reads → ℕ → Eval Reply
+owed end.Nobody r n = pure reply.Nobody
+owed end.Token r n = pure (reply.Tok r.me n)
+owed end.Place r n = owed_place r.within r
+owed end.Caller r n = pure r.reply
+
+-- ---- to which handler it goes
+
+-- where the program has no such behaviour or handler, which typing refuses
+abbrev pub no_number : ℕ
+no_number = 65534
+
+abbrev pub or_no_number : Option ℕ → ℕ
+or_no_number (Some n) = n
+or_no_number None = no_number
+
+pub record Address : Type 0 where
+  pub behavior : ℕ
+  pub handler : ℕ
+
+-- `print` is handler 0 and `println` is handler 1 of the output, whose behaviour is 65,535
+abbrev pub output_address : List ℕ → Address
+output_address name = record { behavior = 65535; handler = if bytes_eq name (codes "println") then 1 else 0 }
+
+-- Every actor understands `migrate`, handler 65,535 of behaviour 65,535. Other handlers are those of the
+-- behaviour that the target has in the text.
+abbrev pub actor_address : List ℕ → Option ℕ → Reads → Address
+actor_address name behavior r =
+    if bytes_eq name (codes "migrate") then record { behavior = 65535; handler = 65535 }
+    else record { behavior = or_no_number behavior; handler = or_no_number (handler_named name (handlers_at r.behaviors behavior)) }
+
+abbrev pub address_at : Aim → List ℕ → Option ℕ → Reads → Address
+address_at (aim.Output at) name behavior r = output_address name
+address_at aim.Own name behavior r = actor_address name behavior r
+address_at (aim.Actor e) name behavior r = actor_address name behavior r
+
+unfoldable pub address_of : Send → Reads → State → Address
+address_of m r s = address_at m.aim m.handler.text (target_behavior m.aim (scope_of r s)) r
+
+-- ---- the stage
+
+abbrev pub message_with : Send → Reads → Option ℕ → Target → List Piece → ℕ → ℕ → Reply → State → Message
+message_with m r before to args delay n owes s = record {
+  maker = r.me;
+  serial = n;
+  target = to;
+  behavior = (address_of m r s).behavior;
+  handler = (address_of m r s).handler;
+  args = args;
+  after = after_of m.properties before r.within s;
+  delay = delay;
+  reply = owes;
+}
+
+abbrev pub count_message : Eval ℕ
+count_message = λ s. next_number (length s.messages) s
+
+abbrev pub sent : Send → Reads → Option ℕ → Target → List Piece → ℕ → ℕ → Reply → Eval ℕ
+sent m r before to args delay n owes = λ s. Ok (n, record s { messages = s.messages ++ message_with m r before to args delay n owes s ∷ [] })
+
+-- null targets, bad delays and too many messages are tested in this order; then the message takes its number
+abbrev pub addressed : Send → Reads → Option ℕ → End → Option Target → List Piece → Option ℕ → Eval ℕ
+addressed m r before last None args delay = trap NullTarget
+addressed m r before last (Some to) args None = trap BadDelay
+addressed m r before last (Some to) args (Some delay) = count_message >>= (λ n. owed last r n >>= (λ owes. sent m r before to args delay n owes))
+
+-- A message stage behind the stage of this number evaluates its target, its arguments and its delay, and is
+-- sent. It gives its number.
+unfoldable pub message : Send → Reads → Option ℕ → End → Eval ℕ
+message m r before last =
+    aimed m.aim r >>= (λ to. pieces m.args r before [] >>= (λ args. delays m.properties None r >>= (λ delay.
+    addressed m r before last (target_of to) args (delay_of delay))))

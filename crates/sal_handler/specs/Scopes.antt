@@ -1,0 +1,164 @@
+-- What a handler reads, and how it reads and changes its state.
+use Rattle.std.specs.Prelude.{ℕ, ◌+◌, ℤ, Bool, nat_lt, if◌then◌else◌, List, [], ◌∷◌, ◌++◌, length, map, take, slice_get, slice_set, Option, Some, None, Ok, Err}
+use Rattle.std.specs.List.{position}
+use Rattle.std.specs.Str.{bytes_eq}
+use Rattle.sal_value.specs.declared.name.Name.{Name}
+use Rattle.sal_value.specs.declared.name.Name.TheVariants.{Anon}
+use Rattle.sal_value.specs.declared.value.Sort.{Sort}
+use Rattle.sal_value.specs.declared.value.Value.{Value}
+use Rattle.sal_value.specs.declared.value.Value.TheVariants.{Null}
+use Rattle.sal_ast.specs.declared.program.Behavior.{Behavior}
+use Rattle.sal_ast.specs.Members.{fields_of}
+use Rattle.sal_ast.specs.Sorts.{Scope, Variable, fields_in}
+use Rattle.sal_mail.specs.declared.message.Reply.{Reply}
+use Rattle.sal_mail.specs.declared.fault.Trap.TheVariants.{TooManyTurns, TooManyMessages}
+use Rattle.sal_handler.specs.declared.state.Held.{Held}
+use Rattle.sal_handler.specs.declared.state.Held.TheVariants as held
+use Rattle.sal_handler.specs.declared.state.Local.{Local}
+use Rattle.sal_handler.specs.declared.state.Inside.{Inside}
+use Rattle.sal_handler.specs.declared.state.State.{State}
+use Rattle.sal_handler.specs.Evaluation.{Checked, and_then, Eval}
+use Rattle.sal_handler.specs.Values.{item_at, assigned}
+
+-- What a handler reads: whose it is, to whom the handled message owes its reply, the behaviours of the
+-- program, the number of its own, the joins whose blocks it is in, from the innermost outwards, the names
+-- that new actors take, and what makes the fields of a new actor. Initialisers and constructors make none.
+pub record Reads : Type 0 where
+  pub me : Name
+  pub reply : Reply
+  pub behaviors : List Behavior
+  pub mine : ℕ
+  pub within : List Inside
+  pub fresh : List Name
+  pub make : Option (ℕ → List Value → Checked (List Value))
+
+-- what the types of expressions hang on
+abbrev pub variable_of : Local → Variable
+variable_of l = record { name = l.name; sort = l.sort }
+
+abbrev pub scope_of : Reads → State → Scope
+scope_of r s = record { behaviors = r.behaviors; mine = r.mine; locals = map variable_of s.locals }
+
+-- ---- names
+
+-- where the local of this name stands
+unfoldable pub local_named : List ℕ → List Local → Option ℕ
+local_named name = position (λ l. bytes_eq l.name name)
+
+-- where the field of this name stands
+unfoldable pub field_named : List ℕ → Reads → Option ℕ
+field_named name r = position (λ f. bytes_eq f.name name) (fields_in (slice_get r.behaviors r.mine))
+
+-- a token has no value
+abbrev pub held_value : Held → Value
+held_value (held.Value v) = v
+held_value (held.Token n) = Null
+
+abbrev pub local_value : Option Local → Value
+local_value (Some l) = held_value l.held
+local_value None = Null
+
+abbrev pub field_at : Option ℕ → State → Value
+field_at (Some i) s = item_at s.fields i
+field_at None s = Null
+
+-- the field's value
+abbrev pub read_field : List ℕ → Reads → State → Value
+read_field name r s = field_at (field_named name r) s
+
+abbrev pub read_at : Option ℕ → List ℕ → Reads → State → Value
+read_at (Some i) name r s = local_value (slice_get s.locals i)
+read_at None name r s = read_field name r s
+
+-- the value of a local, or else of a field
+abbrev pub read : List ℕ → Reads → State → Value
+read name r s = read_at (local_named name s.locals) name r s
+
+-- ---- assignments
+
+abbrev pub set_field : Option ℕ → List ℤ → Value → Eval (Unit {0})
+set_field None indexes v = λ s. Ok (tt, s)
+set_field (Some i) indexes v = λ s. and_then (assigned (item_at s.fields i) indexes v) (λ w. Ok (tt, record s { fields = slice_set s.fields i w }))
+
+-- a token keeps what it holds
+abbrev pub assigned_held : Held → List ℤ → Value → Checked Held
+assigned_held (held.Value old) indexes v = and_then (assigned old indexes v) (λ w. Ok (held.Value w))
+assigned_held (held.Token n) indexes v = Ok (held.Token n)
+
+abbrev pub assigned_local : Option Local → List Local → ℕ → List ℤ → Value → Checked (List Local)
+assigned_local None locals i indexes v = Ok locals
+assigned_local (Some l) locals i indexes v = and_then (assigned_held l.held indexes v) (λ h. Ok (slice_set locals i (record l { held = h })))
+
+abbrev pub set_local : ℕ → List ℤ → Value → Eval (Unit {0})
+set_local i indexes v = λ s. and_then (assigned_local (slice_get s.locals i) s.locals i indexes v) (λ ls. Ok (tt, record s { locals = ls }))
+
+abbrev pub set_found : Option ℕ → List ℕ → Reads → List ℤ → Value → Eval (Unit {0})
+set_found (Some i) name r indexes v = set_local i indexes v
+set_found None name r indexes v = set_field (field_named name r) indexes v
+
+-- assigns to the field, or to the local of this name and else to the field
+abbrev pub write : Bool → List ℕ → Reads → List ℤ → Value → Eval (Unit {0})
+write own name r indexes v = λ s.
+    if own then set_field (field_named name r) indexes v s else set_found (local_named name s.locals) name r indexes v s
+
+-- ---- what is in scope
+
+abbrev pub with_local : List ℕ → Option Sort → Held → Eval (Unit {0})
+with_local name sort h = λ s. Ok (tt, record s { locals = s.locals ++ record { name = name; sort = sort; held = h } ∷ [] })
+
+-- a local with its value
+abbrev pub declare : List ℕ → Option Sort → Value → Eval (Unit {0})
+declare name sort v = with_local name sort (held.Value v)
+
+-- a token with the number of the message or join whose reply it is
+abbrev pub declare_token : List ℕ → ℕ → Eval (Unit {0})
+declare_token name n = with_local name None (held.Token n)
+
+-- what a part declares is out of scope behind it
+abbrev pub leave : ℕ → State → State
+leave count s = record s { locals = take count s.locals }
+
+abbrev pub scoped : {A : Type 0} → Eval A → Eval A
+scoped m = λ s. and_then (m s) (λ r. Ok (r.0, leave (length s.locals) r.1))
+
+abbrev pub token_in : Held → Option ℕ
+token_in (held.Token n) = Some n
+token_in (held.Value v) = None
+
+abbrev pub token_of_local : Option Local → Option ℕ
+token_of_local (Some l) = token_in l.held
+token_of_local None = None
+
+abbrev pub token_at : Option ℕ → State → Option ℕ
+token_at (Some i) s = token_of_local (slice_get s.locals i)
+token_at None s = None
+
+-- the number that the token of this name holds
+abbrev pub token_named : List ℕ → State → Option ℕ
+token_named name s = token_at (local_named name s.locals) s
+
+-- ---- counts and numbers
+
+-- a loop body begins: at most 100,000 times in one handler, all its loops together
+abbrev pub begin_turn : Eval (Unit {0})
+begin_turn = λ s. if nat_lt s.turns 100000 then Ok (tt, record s { turns = s.turns + 1 }) else Err TooManyTurns
+
+-- The actor's next number. A handler begins with 4,096 numbers left, so the test never fails in one.
+abbrev pub take_number : Eval ℕ
+take_number = λ s. if nat_lt s.serial 18446744073709551615 then Ok (s.serial, record s { serial = s.serial + 1 }) else Err TooManyMessages
+
+-- the next number, where so many of a kind are there: at most 1,024 messages, and as many joins
+abbrev pub next_number : ℕ → Eval ℕ
+next_number count = λ s. if nat_lt count 1024 then take_number s else Err TooManyMessages
+
+-- The next place of the innermost join. A handler has at most 2,048 chains, so the test never fails.
+abbrev pub next_place : Eval ℕ
+next_place = λ s. if nat_lt s.places 4096 then Ok (s.places, record s { places = s.places + 1 }) else Err TooManyMessages
+
+abbrev pub name_or : Option Name → ℕ → Name
+name_or (Some n) i = n
+name_or None i = Anon 4294967295 i
+
+-- the name that the new actor with this place takes; past the list's end names are of no theatre
+abbrev pub fresh_name : List Name → ℕ → Name
+fresh_name fresh i = name_or (slice_get fresh i) i
