@@ -70,7 +70,8 @@ cut_again u h =
     let path : after_first is_slash (after_first is_colon (drop 6 (uan_text u))) ≡ u.path = ap (after_first is_slash) rest ∙ after_at is_slash (decimal u.port) 47 u.path (digits_inside (decimal u.port) numeral.0.1) refl in
     λ i. record { host = host i; port = port i; path = path i }
 
-some_if : {A : Type 0} (b : Bool) (x y : A) → (if b then Some x else None) ≡ Some y → (b ≡ true) × (x ≡ y)
+-- what is chosen only where a test passes
+pub some_if : {A : Type 0} (b : Bool) (x y : A) → (if b then Some x else None) ≡ Some y → (b ≡ true) × (x ≡ y)
 some_if true x y e = (refl, cc)
 some_if false x y e = absurd cc
 

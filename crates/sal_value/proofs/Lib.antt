@@ -5,11 +5,13 @@ pub mod Cuts
 pub mod Decimals
 pub mod Equations
 pub mod Found
+pub mod Given
 pub mod Items
 pub mod Keys
 pub mod Loops
 pub mod Numbers
 pub mod Readings
+pub mod Refusals
 pub mod Rooms
 pub mod Takes
 pub mod Texts

@@ -26,7 +26,7 @@ or_first : (a b : Bool) → a ≡ true → a || b ≡ true
 or_first true b h = refl
 or_first false b h = absurd cc
 
-first_ends : (p q : List ℕ) → FirstPasses is_colon p → FirstPasses is_slash q → FirstPasses ends_host (p ++ q)
+pub first_ends : (p q : List ℕ) → FirstPasses is_colon p → FirstPasses is_slash q → FirstPasses ends_host (p ++ q)
 first_ends [] [] f g = tt
 first_ends [] (b ∷ q) f g = or_second (is_colon b) (is_slash b) g
 first_ends (b ∷ p) q f g = or_first (is_colon b) (is_slash b) f

@@ -1,9 +1,10 @@
 -- The texts of names and locators.
-use Rattle.std.specs.Prelude.{◌≡◌, ℕ, zero, ◌+◌, ◌*◌, ◌-◌, ◌≤◌, ◌==◌, nat_le, Bool, true, false, ◌&&◌, ◌||◌, if◌then◌else◌, IsTrue, List, [], ◌∷◌, ◌++◌, length, map, take, drop, codes, Option, Some, None, Result, Ok, Err}
+use Rattle.std.specs.Prelude.{◌≡◌, ℕ, ◌≤◌, ◌==◌, nat_le, Bool, true, false, ◌&&◌, ◌||◌, if◌then◌else◌, IsTrue, List, [], ◌∷◌, ◌++◌, length, map, take, drop, codes, Option, Some, None, Result, Ok, Err}
 use Rattle.std.specs.Char.{to_ascii_lowercase, is_ascii_lowercase, is_ascii_uppercase, is_ascii_digit}
 use Rattle.std.specs.List.{list_all}
 use Rattle.std.specs.Fmt.{decimal}
 use Rattle.std.specs.Str.{bytes_eq}
+use Rattle.std.specs.Str.Parse.{digits_value}
 use Rattle.sal_value.specs.declared.name.Uan.{Uan}
 use Rattle.sal_value.specs.declared.name.Ual.{Ual}
 use Rattle.sal_value.specs.declared.name.NameFault.{NameFault}
@@ -159,41 +160,41 @@ abbrev pub onward : (ℕ → Bool) → List ℕ → List ℕ
 onward test [] = []
 onward test (b ∷ bytes) = if test b then b ∷ bytes else onward test bytes
 
--- what digits write, behind a number
-abbrev pub number_behind : ℕ → List ℕ → ℕ
-number_behind n [] = n
-number_behind n (digit ∷ digits) = number_behind (n * 10 + (digit - 48)) digits
-
-abbrev pub port_written : ℕ → List ℕ → Option ℕ
-port_written n digits = if bytes_eq (decimal n) digits && is_port n then Some n else None
+-- the port that these digits are the decimal text of
+abbrev pub port_written : List ℕ → Option ℕ
+port_written digits = if bytes_eq (decimal (digits_value 10 digits)) digits && is_port (digits_value 10 digits) then Some (digits_value 10 digits) else None
 
 -- the number that a port's part writes
 abbrev pub port_of : ℕ → List ℕ → Option ℕ
 port_of usual [] = Some usual
-port_of usual (colon ∷ digits) = port_written (number_behind 0 digits) digits
+port_of usual (colon ∷ digits) = port_written digits
 
 -- what stands behind a scheme
 abbrev pub behind_scheme : List ℕ → List ℕ → Option (List ℕ)
 behind_scheme scheme text = if bytes_eq (lowered (take (length scheme) text)) scheme then Some (drop (length scheme) text) else None
 
--- host, port and path of good parts
+-- host, port and path, if all three are good
 abbrev pub good_parts : Kind → List ℕ → Option ℕ → List ℕ → Option (List ℕ × (ℕ × List ℕ))
 good_parts kind host None path = None
 good_parts kind host (Some port) path = if is_host host && kind.path path then Some (host, (port, path)) else None
 
+-- the parts of what stands behind the scheme, with the host in lower case
 abbrev pub parts_behind : Kind → Option (List ℕ) → Option (List ℕ × (ℕ × List ℕ))
 parts_behind kind None = None
 parts_behind kind (Some text) =
     good_parts kind (lowered (until ends_host text)) (port_of kind.usual (until is_slash (onward ends_host text))) (onward is_slash (onward ends_host text))
 
+-- a path without its first byte
 abbrev pub without_slash : List ℕ → List ℕ
 without_slash [] = []
 without_slash (slash ∷ path) = path
 
+-- the name of these parts
 abbrev pub uan_from : Option (List ℕ × (ℕ × List ℕ)) → Option Uan
 uan_from None = None
 uan_from (Some parts) = Some (record { host = parts.0; port = parts.1.0; path = without_slash parts.1.1 })
 
+-- the locator of these parts, without the path
 abbrev pub ual_from : Option (List ℕ × (ℕ × List ℕ)) → Option Ual
 ual_from None = None
 ual_from (Some parts) = Some (record { host = parts.0; port = parts.1.0 })
@@ -227,3 +228,8 @@ pub record NamesAreGiven : Type 0 where
   pub no_uan : (text : List ℕ) (f : NameFault) → (f ≡ fault.Memory → ⊥) → ReadsUan text (Err f) → uan_of text ≡ None
   pub ual : (text : List ℕ) (l : Ual) → ReadsUal text (Ok l) → ual_of text ≡ Some l
   pub no_ual : (text : List ℕ) (f : NameFault) → (f ≡ fault.Memory → ⊥) → ReadsUal text (Err f) → ual_of text ≡ None
+
+-- A text is refused for one reason, apart from want of memory.
+pub record NamesAreRefusedOnce : Type 0 where
+  pub uan : (text : List ℕ) (f g : NameFault) → (f ≡ fault.Memory → ⊥) → (g ≡ fault.Memory → ⊥) → ReadsUan text (Err f) → ReadsUan text (Err g) → f ≡ g
+  pub ual : (text : List ℕ) (f g : NameFault) → (f ≡ fault.Memory → ⊥) → (g ≡ fault.Memory → ⊥) → ReadsUal text (Err f) → ReadsUal text (Err g) → f ≡ g

@@ -1,7 +1,7 @@
 //! Laws of the definitions: functions without work, whose contracts are the laws.
 
 ghost use Rattle.sal_value.specs.Coding.{NamesAreDecoded, ValuesAreDecoded};
-ghost use Rattle.sal_value.specs.Names.{NamesAreRead, LocatorsAreRead};
+ghost use Rattle.sal_value.specs.Names.{LocatorsAreRead, NamesAreGiven, NamesAreRead, NamesAreRefusedOnce};
 ghost use Rattle.sal_value.specs.Order.{KeysTellNames};
 
 /// A map by keys is a map from names.
@@ -17,6 +17,16 @@ pub fn names_are_read()
 /// The same of locators.
 pub fn locators_are_read()
     ensures { LocatorsAreRead }
+{}
+
+/// The functions of texts give the names and locators that reading gives, and nothing where it refuses.
+pub fn names_are_given()
+    ensures { NamesAreGiven }
+{}
+
+/// A text is refused as a name for one reason, and as a locator for one.
+pub fn names_are_refused_once()
+    ensures { NamesAreRefusedOnce }
 {}
 
 /// What is decoded is spelled by the bytes that were read, and what is spelled is decoded.

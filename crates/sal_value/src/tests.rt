@@ -117,6 +117,14 @@ fn a_text_is_spelled(rt: HostRuntime) -> Result<(), Fail> {
 }
 
 #[test]
+fn empty_values_are_spelled(rt: HostRuntime) -> Result<(), Fail> {
+    let text = Value::Str(Text::new(rt.alloc()));
+    is_spelled_so(&rt, rt.alloc(), &text, STR_EMPTY)?;
+    let array = Value::Array(List::new(rt.alloc()));
+    is_spelled_so(&rt, rt.alloc(), &array, ARRAY_EMPTY)
+}
+
+#[test]
 fn an_array_is_spelled(rt: HostRuntime) -> Result<(), Fail> {
     let mut items = List::new(rt.alloc());
     items.push(Value::Bool(true))?;
