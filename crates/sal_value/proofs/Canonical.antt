@@ -13,7 +13,7 @@ use Rattle.sal_value.specs.declared.name.Uan.{Uan}
 use Rattle.sal_value.specs.declared.name.NameFault.{NameFault}
 use Rattle.sal_value.specs.declared.name.NameFault.TheVariants as fault
 use Rattle.sal_value.specs.Names.{lowered, uan_text, is_host_byte, is_host, is_port, is_uan_path, NonePass, is_colon, is_slash, ReadsUan, is_uan}
-use Rattle.sal_value.specs.Decoding.{cut_uan, uan_of}
+use Rattle.sal_value.specs.Decoding.{cut_uan, canonical_uan}
 use Rattle.sal_value.proofs.Bytes.{both, host_parts}
 use Rattle.sal_value.proofs.Readings.{host_stays, digits_inside, port_range, names_are_read}
 
@@ -76,8 +76,8 @@ some_if true x y e = (refl, cc)
 some_if false x y e = absurd cc
 
 -- the name of a text is good, and has this text
-pub uan_of_is : (text : List ℕ) (u : Uan) → uan_of text ≡ Some u → (is_uan u ≡ true) × (uan_text u ≡ text)
-unfolding uan_of
+pub uan_of_is : (text : List ℕ) (u : Uan) → canonical_uan text ≡ Some u → (is_uan u ≡ true) × (uan_text u ≡ text)
+unfolding canonical_uan
 uan_of_is text u e =
     let a = some_if (is_uan (cut_uan text) && bytes_eq (uan_text (cut_uan text)) text) (cut_uan text) u e in
     let b = both (is_uan (cut_uan text)) (bytes_eq (uan_text (cut_uan text)) text) a.0 in
@@ -85,8 +85,8 @@ uan_of_is text u e =
     subst (λ z. (is_uan z ≡ true) × (uan_text z ≡ text)) a.1 (b.0, same)
 
 -- a good name is the name of its text
-pub uan_of_text : (u : Uan) → is_uan u ≡ true → uan_of (uan_text u) ≡ Some u
-unfolding uan_of
+pub uan_of_text : (u : Uan) → is_uan u ≡ true → canonical_uan (uan_text u) ≡ Some u
+unfolding canonical_uan
 uan_of_text u h =
     let cut = cut_again u h in
     let good : is_uan (cut_uan (uan_text u)) ≡ true = ap is_uan cut ∙ h in
@@ -97,29 +97,29 @@ uan_of_text u h =
 
 -- ---- what reading says of the name of a text
 
-pub canonical_text : (text : List ℕ) (u : Uan) → ReadsUan text (Ok u) → uan_text u ≡ text → Some u ≡ uan_of text
-canonical_text text u reads same = sym (uan_of_text u (names_are_read.given text u reads)) ∙ ap uan_of same
+pub canonical_text : (text : List ℕ) (u : Uan) → ReadsUan text (Ok u) → uan_text u ≡ text → Some u ≡ canonical_uan text
+canonical_text text u reads same = sym (uan_of_text u (names_are_read.given text u reads)) ∙ ap canonical_uan same
 
-again : (text : List ℕ) (v : Uan) → uan_of text ≡ Some v → ReadsUan text (Ok v)
+again : (text : List ℕ) (v : Uan) → canonical_uan text ≡ Some v → ReadsUan text (Ok v)
 again text v e =
     let is = uan_of_is text v e in
     subst (λ (z : List ℕ). ReadsUan z (Ok v)) is.1 (names_are_read.again v is.0)
 
-other_at : (text : List ℕ) (u : Uan) (o : Option Uan) → uan_of text ≡ o → ReadsUan text (Ok u) → (uan_text u ≡ text → ⊥) → None ≡ o
+other_at : (text : List ℕ) (u : Uan) (o : Option Uan) → canonical_uan text ≡ o → ReadsUan text (Ok u) → (uan_text u ≡ text → ⊥) → None ≡ o
 other_at text u None e reads other = refl
 other_at text u (Some v) e reads other =
     let same : u ≡ v = names_are_read.one text u v reads (again text v e) in
     absurd (other (ap uan_text same ∙ (uan_of_is text v e).1))
 
-pub other_text : (text : List ℕ) (u : Uan) → ReadsUan text (Ok u) → (uan_text u ≡ text → ⊥) → None ≡ uan_of text
-other_text text u reads other = other_at text u (uan_of text) refl reads other
+pub other_text : (text : List ℕ) (u : Uan) → ReadsUan text (Ok u) → (uan_text u ≡ text → ⊥) → None ≡ canonical_uan text
+other_text text u reads other = other_at text u (canonical_uan text) refl reads other
 
-refused_at : (text : List ℕ) (f : NameFault) (o : Option Uan) → uan_of text ≡ o → ReadsUan text (Err f) → (f ≡ fault.Memory → ⊥) → None ≡ o
+refused_at : (text : List ℕ) (f : NameFault) (o : Option Uan) → canonical_uan text ≡ o → ReadsUan text (Err f) → (f ≡ fault.Memory → ⊥) → None ≡ o
 refused_at text f None e reads other = refl
 refused_at text f (Some v) e reads other = absurd (other (names_are_read.sure text v f (again text v e) reads))
 
-pub refused_text : (text : List ℕ) (f : NameFault) → ReadsUan text (Err f) → (f ≡ fault.Memory → ⊥) → None ≡ uan_of text
-refused_text text f reads other = refused_at text f (uan_of text) refl reads other
+pub refused_text : (text : List ℕ) (f : NameFault) → ReadsUan text (Err f) → (f ≡ fault.Memory → ⊥) → None ≡ canonical_uan text
+refused_text text f reads other = refused_at text f (canonical_uan text) refl reads other
 
 pub same_bytes : (r : Bool) (xs ys : List ℕ) → r ≡ bytes_eq xs ys → IsTrue r ↔ (xs ≡ ys)
 same_bytes r xs ys e =

@@ -17,7 +17,7 @@ use Rattle.sal_value.specs.declared.value.Value.TheVariants as v
 use Rattle.sal_value.specs.Names.{uan_text, is_uan}
 use Rattle.sal_value.specs.Spelling.{text_bytes, anon_bytes, name_spelling, name_is_spelled, spelling, fits, is_spelled}
 use Rattle.sal_value.specs.Coding.{IsBytes}
-use Rattle.sal_value.specs.Decoding.{Reading, ◌>>=◌, wrong, bytes_at, number_at, bool_at, text_at, uan_of, named, uan_at, anon_at, name_at, items_at, count_at, array_at, tagged_at, value_at, placed, decoded_name, decoded_value}
+use Rattle.sal_value.specs.Decoding.{Reading, ◌>>=◌, wrong, bytes_at, number_at, bool_at, text_at, canonical_uan, named, uan_at, anon_at, name_at, items_at, count_at, array_at, tagged_at, value_at, placed, decoded_name, decoded_value}
 use Rattle.sal_value.proofs.Canonical.{uan_of_is}
 use Rattle.sal_value.proofs.Takes.{done, bytes_tail, bind_ok, ok_is, guard_ok, not_err, chosen, Takes, takes_then, takes_tag, bytes_taken, wide16, wide32, wide64, number_taken}
 use Rattle.sal_value.proofs.Equations.{spelling_null, spelling_int, spelling_bool, spelling_str, spelling_ref, spelling_array, fits_null, fits_int, fits_bool, fits_str, fits_ref, fits_array}
@@ -44,11 +44,11 @@ named_ok text rest (Some u) x e =
 uan_found : (bytes : List ℕ) (x : Uan × List ℕ) → IsBytes bytes → uan_at bytes ≡ Ok x → Takes bytes (text_bytes (uan_text x.0)) x.1 × (is_uan x.0 ≡ true)
 unfolding uan_at
 uan_found bytes x small e =
-    let a = bind_ok (number_at w16 bytes) (λ n. bytes_at n.0 n.1 >>= λ t. named n.1 t.1 (uan_of t.0)) x e in
-    let b = bind_ok (bytes_at a.0.0 a.0.1) (λ t. named a.0.1 t.1 (uan_of t.0)) x a.2 in
+    let a = bind_ok (number_at w16 bytes) (λ n. bytes_at n.0 n.1 >>= λ t. named n.1 t.1 (canonical_uan t.0)) x e in
+    let b = bind_ok (bytes_at a.0.0 a.0.1) (λ t. named a.0.1 t.1 (canonical_uan t.0)) x a.2 in
     let n = number_taken w16 (2 ^ 16) wide16 bytes a.0.0 a.0.1 small a.1 in
     let t = bytes_taken a.0.0 a.0.1 b.0.0 b.0.1 n.0.rest_fits b.1 in
-    let c = named_ok a.0.1 b.0.1 (uan_of b.0.0) x b.2 in
+    let c = named_ok a.0.1 b.0.1 (canonical_uan b.0.0) x b.2 in
     let is = uan_of_is b.0.0 x.0 c.0 in
     let whole = text_found bytes b.0.0 a.0.1 b.0.1 a.0.0 n.0 t.0 t.1 in
     (subst (λ z. Takes bytes (text_bytes (uan_text x.0)) z) c.1 (subst (λ z. Takes bytes (text_bytes z) b.0.1) (sym is.1) whole), is.0)

@@ -39,7 +39,7 @@ none_unless : {A : Type 0} (b : Bool) (x : A) → (b ≡ true → ⊥) → (if b
 none_unless true x no' = absurd (no' refl)
 none_unless false x no' = refl
 
-behind_given : (scheme written rest : List ℕ) → lowered written ≡ scheme → behind_scheme scheme (written ++ rest) ≡ Some rest
+pub behind_given : (scheme written rest : List ℕ) → lowered written ≡ scheme → behind_scheme scheme (written ++ rest) ≡ Some rest
 behind_given scheme written rest e =
     let same : length written ≡ length scheme = omega (arith, length-map written to_ascii_lowercase, ap length e) in
     let front = take_at written rest (length scheme) same in
@@ -58,7 +58,7 @@ behind_none kind text refused =
 is_port_in : (n : ℕ) → 1 ≤ n → n ≤ 65535 → is_port n ≡ true
 is_port_in n low high = grind (arith, nat_tests)
 
-port_given : (usual : ℕ) (p : List ℕ) (n : ℕ) → IsPort usual p n → port_of usual p ≡ Some n
+pub port_given : (usual : ℕ) (p : List ℕ) (n : ℕ) → IsPort usual p n → port_of usual p ≡ Some n
 port_given usual [] n e = ap Some (sym e)
 port_given usual (c ∷ ds) n (e, low, high) =
     let v : ℕ = digits_value 10 ds in
@@ -68,7 +68,7 @@ port_given usual (c ∷ ds) n (e, low, high) =
     let good : is_port v ≡ true = ap is_port value ∙ is_port_in n low high in
     ap (λ b. if b && is_port v then Some v else None) is ∙ ap (λ b. if b then Some v else None) good ∙ ap Some value
 
-port_is : (usual : ℕ) (p : List ℕ) (n : ℕ) → port_of usual p ≡ Some n → IsPort usual p n
+pub port_is : (usual : ℕ) (p : List ℕ) (n : ℕ) → port_of usual p ≡ Some n → IsPort usual p n
 port_is usual [] n e = cc
 port_is usual (c ∷ ds) n e =
     let v : ℕ = digits_value 10 ds in
@@ -133,23 +133,23 @@ refused_given kind text fault.Memory m refused = absurd (m refl)
 
 -- ---- the law
 
-uan_given : (text : List ℕ) (u : Uan) → ReadsUan text (Ok u) → uan_of text ≡ Some u
+pub uan_given : (text : List ℕ) (u : Uan) → ReadsUan text (Ok u) → uan_of text ≡ Some u
 unfolding uan_of
 uan_given text u (h, w, e) =
     ap uan_from (written_given name_kind text h u.port (47 ∷ u.path) w)
     ∙ ap (λ (host : List ℕ). uan_from (Some (host, (u.port, 47 ∷ u.path)))) (sym e)
 
-uan_refused : (text : List ℕ) (f : NameFault) → (f ≡ fault.Memory → ⊥) → ReadsUan text (Err f) → uan_of text ≡ None
+pub uan_refused : (text : List ℕ) (f : NameFault) → (f ≡ fault.Memory → ⊥) → ReadsUan text (Err f) → uan_of text ≡ None
 unfolding uan_of
 uan_refused text f m refused = ap uan_from (refused_given name_kind text f m refused)
 
-ual_given : (text : List ℕ) (l : Ual) → ReadsUal text (Ok l) → ual_of text ≡ Some l
+pub ual_given : (text : List ℕ) (l : Ual) → ReadsUal text (Ok l) → ual_of text ≡ Some l
 unfolding ual_of
 ual_given text l (h, x, w, e) =
     ap ual_from (written_given locator_kind text h l.port x w)
     ∙ ap (λ (host : List ℕ). ual_from (Some (host, (l.port, x)))) (sym e)
 
-ual_refused : (text : List ℕ) (f : NameFault) → (f ≡ fault.Memory → ⊥) → ReadsUal text (Err f) → ual_of text ≡ None
+pub ual_refused : (text : List ℕ) (f : NameFault) → (f ≡ fault.Memory → ⊥) → ReadsUal text (Err f) → ual_of text ≡ None
 unfolding ual_of
 ual_refused text f m refused = ap ual_from (refused_given locator_kind text f m refused)
 

@@ -2,6 +2,7 @@ pub mod Again
 pub mod Bytes
 pub mod Canonical
 pub mod Cuts
+pub mod Decided
 pub mod Decimals
 pub mod Equations
 pub mod Found

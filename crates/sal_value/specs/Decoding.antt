@@ -67,8 +67,8 @@ cut_uan text =
     record { host = before_first is_colon address; port = digits_value 10 (before_first is_slash rest); path = after_first is_slash rest }
 
 -- the good name whose canonical text it is
-unfoldable pub uan_of : List ℕ → Option Uan
-uan_of text = if is_uan (cut_uan text) && bytes_eq (uan_text (cut_uan text)) text then Some (cut_uan text) else None
+unfoldable pub canonical_uan : List ℕ → Option Uan
+canonical_uan text = if is_uan (cut_uan text) && bytes_eq (uan_text (cut_uan text)) text then Some (cut_uan text) else None
 
 -- this name, or the text is wrong
 abbrev pub named : List ℕ → List ℕ → Option Uan → Reading Uan
@@ -80,7 +80,7 @@ unfoldable pub uan_at : List ℕ → Reading Uan
 uan_at bytes = do
   n ← number_at w16 bytes
   t ← bytes_at n.0 n.1
-  named n.1 t.1 (uan_of t.0)
+  named n.1 t.1 (canonical_uan t.0)
 
 unfoldable pub anon_at : List ℕ → Reading Name
 anon_at bytes = do

@@ -233,3 +233,10 @@ pub record NamesAreGiven : Type 0 where
 pub record NamesAreRefusedOnce : Type 0 where
   pub uan : (text : List ℕ) (f g : NameFault) → (f ≡ fault.Memory → ⊥) → (g ≡ fault.Memory → ⊥) → ReadsUan text (Err f) → ReadsUan text (Err g) → f ≡ g
   pub ual : (text : List ℕ) (f g : NameFault) → (f ≡ fault.Memory → ⊥) → (g ≡ fault.Memory → ⊥) → ReadsUal text (Err f) → ReadsUal text (Err g) → f ≡ g
+
+-- What the functions give is read, and where they give nothing the text is refused for a reason.
+pub record NamesAreDecided : Type 0 where
+  pub uan : (text : List ℕ) (u : Uan) → uan_of text ≡ Some u → ReadsUan text (Ok u)
+  pub no_uan : (text : List ℕ) → uan_of text ≡ None → (f : NameFault) × (f ≡ fault.Memory → ⊥) × ReadsUan text (Err f)
+  pub ual : (text : List ℕ) (l : Ual) → ual_of text ≡ Some l → ReadsUal text (Ok l)
+  pub no_ual : (text : List ℕ) → ual_of text ≡ None → (f : NameFault) × (f ≡ fault.Memory → ⊥) × ReadsUal text (Err f)

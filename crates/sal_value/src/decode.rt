@@ -2,7 +2,7 @@
 
 ghost use Rattle.std.specs.Prelude.{◌≡◌, ◌↔◌, ◌∷◌, false, List, length, IsTrue, IfOk, MatchOption};
 ghost use Rattle.sal_value.specs.Names.{uan_text};
-ghost use Rattle.sal_value.specs.Decoding.{count_at, uan_of, uan_at, anon_at, name_at, value_at, is_array, decoded_name, decoded_value, placed_fault};
+ghost use Rattle.sal_value.specs.Decoding.{count_at, canonical_uan, uan_at, anon_at, name_at, value_at, is_array, decoded_name, decoded_value, placed_fault};
 ghost use Rattle.sal_value.specs.Reads.{Gives, Decodes};
 
 use crate::fields::{self, Fault};
@@ -23,7 +23,7 @@ fn is_text_of(alloc: Global, uan: &Uan, text: &[u8]) -> Result<bool, NoMemory>
 /// The name whose canonical text it is.
 #[tactic(auto, using(crate::proofs::Canonical::canonical_text, crate::proofs::Canonical::other_text, crate::proofs::Canonical::refused_text))]
 fn canonical(alloc: Global, text: &[u8]) -> Result<Option<Uan>, NoMemory>
-    ensures { IfOk result (λ o. o ≡ uan_of text.now) }
+    ensures { IfOk result (λ o. o ≡ canonical_uan text.now) }
 {
     match Uan::read(alloc, text) {
         Ok(uan) => {

@@ -1,7 +1,7 @@
 //! Laws of the definitions: functions without work, whose contracts are the laws.
 
 ghost use Rattle.sal_value.specs.Coding.{NamesAreDecoded, ValuesAreDecoded};
-ghost use Rattle.sal_value.specs.Names.{LocatorsAreRead, NamesAreGiven, NamesAreRead, NamesAreRefusedOnce};
+ghost use Rattle.sal_value.specs.Names.{LocatorsAreRead, NamesAreDecided, NamesAreGiven, NamesAreRead, NamesAreRefusedOnce};
 ghost use Rattle.sal_value.specs.Order.{KeysTellNames};
 
 /// A map by keys is a map from names.
@@ -22,6 +22,11 @@ pub fn locators_are_read()
 /// The functions of texts give the names and locators that reading gives, and nothing where it refuses.
 pub fn names_are_given()
     ensures { NamesAreGiven }
+{}
+
+/// What these functions give is read, and where they give nothing the text is refused for a reason.
+pub fn names_are_decided()
+    ensures { NamesAreDecided }
 {}
 
 /// A text is refused as a name for one reason, and as a locator for one.
