@@ -14,7 +14,7 @@ mod statement;
 mod tests;
 
 pub use expression::{At, Expr, Op, Operand, Suffix};
-pub use law::{brackets_are_closed, spellings_are_not_empty};
+pub use law::{brackets_are_closed, prefix_signs_are_bounded, spellings_are_not_empty};
 pub use lexeme::{Kind, Lexeme};
 pub use program::{BaseName, Behavior, Ident, Member, Param, Program, TypeName};
 pub use statement::{Aim, Arg, Assign, Chain, Declare, ForInit, Property, Send, Stage, Stmt};
