@@ -1,331 +1,267 @@
-//! A program of every form of the grammar, and its tokens written out.
+//! A program of every form of the grammar, and its tokens written out. The builders leave out what finds no memory, and then
+//! the comparison fails: so they have no early ends, whose drops would take long to prove.
 
 use crate::*;
 use sal_value::{Boxed, List, NoMemory, Text};
 use std::alloc::Global;
 use std::test::Fail;
 
-fn id(alloc: Global, text: &str) -> Result<Ident, NoMemory> {
-    let text = Text::from_text(alloc, text)?;
-    Ok(Ident { text, at: 0 })
+fn text(alloc: Global, text: &str) -> Text {
+    match Text::from_text(alloc, text) {
+        Ok(text) => text,
+        Err(_) => Text::new(alloc),
+    }
+}
+
+fn id(alloc: Global, name: &str) -> Ident {
+    let text = text(alloc, name);
+    Ident { text, at: 0 }
 }
 
 fn sort(base: BaseName, dims: u32) -> TypeName {
     TypeName { base, dims, at: 0 }
 }
 
-fn actor(alloc: Global, text: &str) -> Result<TypeName, NoMemory> {
-    let text = Text::from_text(alloc, text)?;
-    Ok(sort(BaseName::Actor(text), 0))
+fn and<T: Drop>(mut list: List<T>, item: T) -> List<T> {
+    let _ = list.push(item);
+    list
 }
 
-fn one<T: Drop>(alloc: Global, item: T) -> Result<List<T>, NoMemory> {
-    let mut list = List::new(alloc);
-    list.push(item)?;
-    Ok(list)
-}
-
-fn and<T: Drop>(mut list: List<T>, item: T) -> Result<List<T>, NoMemory> {
-    list.push(item)?;
-    Ok(list)
+fn one<T: Drop>(alloc: Global, item: T) -> List<T> {
+    and(List::new(alloc), item)
 }
 
 fn number(value: u32) -> Expr {
     Expr::Number(value, 0)
 }
 
-fn name(alloc: Global, text: &str) -> Result<Expr, NoMemory> {
-    Ok(Expr::Name(id(alloc, text)?))
+fn name(alloc: Global, text: &str) -> Expr {
+    Expr::Name(id(alloc, text))
 }
 
-fn string(alloc: Global, text: &str) -> Result<Expr, NoMemory> {
-    Ok(Expr::Str(Text::from_text(alloc, text)?, 0))
+fn string(alloc: Global, string: &str) -> Expr {
+    Expr::Str(text(alloc, string), 0)
+}
+
+/// `!(inner)`
+fn not(alloc: Global, inner: Expr) -> Expr {
+    let paren = match Boxed::new(alloc, inner) {
+        Ok(inner) => Expr::Paren(0, inner),
+        Err(_) => Expr::Null(0),
+    };
+    match Boxed::new(alloc, paren) {
+        Ok(paren) => Expr::Not(0, paren),
+        Err(_) => Expr::Null(0),
+    }
+}
+
+fn negative(alloc: Global, inner: Expr) -> Expr {
+    match Boxed::new(alloc, inner) {
+        Ok(inner) => Expr::Neg(0, inner),
+        Err(_) => Expr::Null(0),
+    }
 }
 
 /// `first op value`
-fn level(alloc: Global, first: Expr, op: Op, value: Expr) -> Result<Expr, NoMemory> {
-    let rest = one(alloc, Operand { op, at: 0, value })?;
-    let first = Boxed::new(alloc, first)?;
-    Ok(Expr::Level { first, rest })
+fn level(alloc: Global, first: Expr, op: Op, value: Expr) -> Expr {
+    let rest = one(alloc, Operand { op, at: 0, value });
+    match Boxed::new(alloc, first) {
+        Ok(first) => Expr::Level { first, rest },
+        Err(_) => Expr::Null(0),
+    }
 }
 
 /// `first[index].length`
-fn suffixed(alloc: Global, first: Expr, index: Expr) -> Result<Expr, NoMemory> {
-    let rest = and(one(alloc, Suffix::Index(0, index))?, Suffix::Length(0))?;
-    let first = Boxed::new(alloc, first)?;
-    Ok(Expr::Suffixed { first, rest })
-}
-
-/// `!(true)`
-fn not_true(alloc: Global) -> Result<Expr, NoMemory> {
-    let inner = Boxed::new(alloc, Expr::Bool(true, 0))?;
-    let paren = Boxed::new(alloc, Expr::Paren(0, inner))?;
-    Ok(Expr::Not(0, paren))
+fn suffixed(alloc: Global, first: Expr, index: Expr) -> Expr {
+    let rest = and(one(alloc, Suffix::Index(0, index)), Suffix::Length(0));
+    match Boxed::new(alloc, first) {
+        Ok(first) => Expr::Suffixed { first, rest },
+        Err(_) => Expr::Null(0),
+    }
 }
 
 /// `new int[2][]`
-fn make(alloc: Global) -> Result<Expr, NoMemory> {
-    let size = Boxed::new(alloc, number(2))?;
-    Ok(Expr::Make {
-        at: 0,
-        sort: sort(BaseName::Int, 2),
-        size,
-    })
+fn make(alloc: Global) -> Expr {
+    let sort = sort(BaseName::Int, 2);
+    match Boxed::new(alloc, number(2)) {
+        Ok(size) => Expr::Make { at: 0, sort, size },
+        Err(_) => Expr::Null(0),
+    }
 }
 
-/// `new boolean[]{false, null}`
-fn list_of(alloc: Global) -> Result<Expr, NoMemory> {
-    let items = and(one(alloc, Expr::Bool(false, 0))?, Expr::Null(0))?;
-    Ok(Expr::ListOf {
-        at: 0,
-        sort: sort(BaseName::Boolean, 1),
-        items,
-    })
-}
-
-fn at(alloc: Global, ual: Option<Expr>) -> Result<Option<Boxed<At>>, NoMemory> {
-    let uan = string(alloc, "u")?;
-    let place = Boxed::new(alloc, At { at: 0, uan, ual })?;
-    Ok(Some(place))
-}
-
-/// `new B(args)` and what follows it
-fn new_actor(alloc: Global, args: List<Expr>, place: Option<Boxed<At>>) -> Result<Expr, NoMemory> {
-    let behavior = id(alloc, "B")?;
-    Ok(Expr::New {
+/// `new B(args) at ("u", ual)`
+fn new_actor(alloc: Global, args: List<Expr>, ual: Option<Expr>) -> Expr {
+    let uan = string(alloc, "u");
+    let place = Boxed::new(alloc, At { at: 0, uan, ual }).ok();
+    let behavior = id(alloc, "B");
+    Expr::New {
         at: 0,
         behavior,
         args,
         place,
-    })
+    }
 }
 
 /// `B.getReferenceByName("u")`, perhaps with a cast
-fn by_name(alloc: Global, cast: Option<Ident>) -> Result<Expr, NoMemory> {
-    let behavior = id(alloc, "B")?;
-    let name = Boxed::new(alloc, string(alloc, "u")?)?;
-    Ok(Expr::ByName {
-        at: 0,
-        cast,
-        behavior,
-        name,
-    })
+fn by_name(alloc: Global, cast: Option<Ident>) -> Expr {
+    let behavior = id(alloc, "B");
+    match Boxed::new(alloc, string(alloc, "u")) {
+        Ok(name) => Expr::ByName {
+            at: 0,
+            cast,
+            behavior,
+            name,
+        },
+        Err(_) => Expr::Null(0),
+    }
 }
 
-fn declare(
-    alloc: Global,
-    sort: TypeName,
-    text: &str,
-    init: Option<Expr>,
-) -> Result<Declare, NoMemory> {
-    let name = id(alloc, text)?;
-    Ok(Declare { sort, name, init })
-}
-
-fn assign(
-    alloc: Global,
-    own: bool,
-    text: &str,
-    indexes: List<Expr>,
-    value: Expr,
-) -> Result<Assign, NoMemory> {
-    let name = id(alloc, text)?;
-    Ok(Assign {
+fn assign(alloc: Global, own: bool, text: &str, indexes: List<Expr>, value: Expr) -> Assign {
+    let name = id(alloc, text);
+    Assign {
         own,
         name,
         indexes,
         value,
-    })
+    }
+}
+
+/// `text = value`
+fn set(alloc: Global, text: &str, value: Expr) -> Assign {
+    assign(alloc, false, text, List::new(alloc), value)
+}
+
+fn declare(alloc: Global, sort: TypeName, text: &str, init: Option<Expr>) -> Declare {
+    let name = id(alloc, text);
+    Declare { sort, name, init }
+}
+
+fn when(alloc: Global, test: Expr, yes: Stmt, no: Option<Boxed<Stmt>>) -> Stmt {
+    match Boxed::new(alloc, yes) {
+        Ok(yes) => Stmt::If {
+            at: 0,
+            test,
+            yes,
+            no,
+        },
+        Err(_) => Stmt::Empty(0),
+    }
+}
+
+fn looped(alloc: Global, test: Expr, body: Stmt) -> Stmt {
+    match Boxed::new(alloc, body) {
+        Ok(body) => Stmt::While { at: 0, test, body },
+        Err(_) => Stmt::Empty(0),
+    }
+}
+
+fn counted(
+    alloc: Global,
+    init: ForInit,
+    test: Option<Expr>,
+    next: Option<Assign>,
+    body: Stmt,
+) -> Stmt {
+    match Boxed::new(alloc, body) {
+        Ok(body) => Stmt::For {
+            at: 0,
+            init,
+            test,
+            next,
+            body,
+        },
+        Err(_) => Stmt::Empty(0),
+    }
+}
+
+fn returned(value: Option<Expr>) -> Stmt {
+    Stmt::Return { at: 0, value }
 }
 
 /// `aim<-m(args)`
-fn send(alloc: Global, aim: Aim, args: List<Arg>) -> Result<Stage, NoMemory> {
-    let handler = id(alloc, "m")?;
-    let properties = List::new(alloc);
-    Ok(Stage::Message(Send {
+fn send(alloc: Global, aim: Aim, args: List<Arg>, properties: List<Property>) -> Stage {
+    let handler = id(alloc, "m");
+    Stage::Message(Send {
         aim,
         handler,
         args,
         properties,
-    }))
-}
-
-fn chain(alloc: Global, stage: Stage) -> Result<Stmt, NoMemory> {
-    let stages = one(alloc, stage)?;
-    Ok(Stmt::Chain {
-        chain: Chain { stages },
-        passed: None,
     })
 }
 
-fn body(alloc: Global, stmt: Stmt) -> Result<Boxed<Stmt>, NoMemory> {
-    Boxed::new(alloc, stmt)
-}
-
-/// `{ B x; }`
-fn inner_block(alloc: Global) -> Result<Stmt, NoMemory> {
-    let x = declare(alloc, actor(alloc, "B")?, "x", None)?;
-    Ok(Stmt::Block(0, one(alloc, Stmt::Declare(x))?))
-}
-
-/// `while (false) y = null;`
-fn loop_forever(alloc: Global) -> Result<Stmt, NoMemory> {
-    let y = assign(alloc, false, "y", List::new(alloc), Expr::Null(0))?;
-    let body = body(alloc, Stmt::Assign(y))?;
-    Ok(Stmt::While {
-        at: 0,
-        test: Expr::Bool(false, 0),
-        body,
-    })
-}
-
-/// `if (a == "s") return; else` and the loop
-fn two_ways(alloc: Global) -> Result<Stmt, NoMemory> {
-    let test = level(alloc, name(alloc, "a")?, Op::Same, string(alloc, "s")?)?;
-    let yes = body(alloc, Stmt::Return { at: 0, value: None })?;
-    let no = body(alloc, loop_forever(alloc)?)?;
-    Ok(Stmt::If {
-        at: 0,
-        test,
-        yes,
-        no: Some(no),
-    })
-}
-
-/// `if (n[1].length) ;`
-fn one_way(alloc: Global) -> Result<Stmt, NoMemory> {
-    let test = suffixed(alloc, name(alloc, "n")?, number(1))?;
-    let yes = body(alloc, Stmt::Empty(0))?;
-    Ok(Stmt::If {
-        at: 0,
-        test,
-        yes,
-        no: None,
-    })
-}
-
-/// `i = i + 1`
-fn one_more(alloc: Global) -> Result<Assign, NoMemory> {
-    let sum = level(alloc, name(alloc, "i")?, Op::Add, number(1))?;
-    assign(alloc, false, "i", List::new(alloc), sum)
-}
-
-/// `i < 3`
-fn below_three(alloc: Global) -> Result<Expr, NoMemory> {
-    level(alloc, name(alloc, "i")?, Op::Less, number(3))
-}
-
-/// `for (int i = 0; i < 3; i = i + 1) ;`
-fn counted(alloc: Global) -> Result<Stmt, NoMemory> {
-    let body = body(alloc, Stmt::Empty(0))?;
-    let first = declare(alloc, sort(BaseName::Int, 0), "i", Some(number(0)))?;
-    let test = below_three(alloc)?;
-    let next = one_more(alloc)?;
-    Ok(Stmt::For {
-        at: 0,
-        init: ForInit::Declare(first),
-        test: Some(test),
-        next: Some(next),
-        body,
-    })
-}
-
-/// `for (init; ; ) return self;`
-fn bare(alloc: Global, init: ForInit) -> Result<Stmt, NoMemory> {
-    let body = body(
-        alloc,
-        Stmt::Return {
-            at: 0,
-            value: Some(Expr::Me(0)),
-        },
-    )?;
-    Ok(Stmt::For {
-        at: 0,
-        init,
-        test: None,
-        next: None,
-        body,
-    })
-}
-
-/// `for (i = 0; ; ) return self;`
-fn assigned(alloc: Global) -> Result<Stmt, NoMemory> {
-    let first = assign(alloc, false, "i", List::new(alloc), number(0))?;
-    bare(alloc, ForInit::Assign(first))
-}
-
-/// `self<-m(token, 1):delay(5):waitfor(a, b)`
-fn late(alloc: Global) -> Result<Stage, NoMemory> {
-    let args = and(one(alloc, Arg::Token(0))?, Arg::Expr(number(1)))?;
-    let names = and(one(alloc, id(alloc, "a")?)?, id(alloc, "b")?)?;
-    let delay = Property::Delay {
-        at: 0,
-        time: number(5),
-    };
-    let properties = and(one(alloc, delay)?, Property::WaitFor { at: 0, names })?;
-    let handler = id(alloc, "m")?;
-    Ok(Stage::Message(Send {
-        aim: Aim::Actor(Expr::Me(0)),
-        handler,
-        args,
-        properties,
-    }))
-}
-
-fn token(alloc: Global) -> Result<Stmt, NoMemory> {
-    let stages = one(alloc, late(alloc)?)?;
-    let name = id(alloc, "t")?;
-    Ok(Stmt::Token {
-        at: 0,
-        name,
-        chain: Chain { stages },
-    })
-}
-
-/// `standardOutput<-m("x") @ join { m(); } @ currentContinuation;`
-fn passing(alloc: Global) -> Result<Stmt, NoMemory> {
-    let text = one(alloc, Arg::Expr(string(alloc, "x")?))?;
-    let print = send(alloc, Aim::Output(0), text)?;
-    let own = send(alloc, Aim::Own, List::new(alloc))?;
-    let body = one(alloc, chain(alloc, own)?)?;
-    let stages = and(one(alloc, print)?, Stage::Join { at: 0, body })?;
-    Ok(Stmt::Chain {
-        chain: Chain { stages },
-        passed: Some(0),
-    })
+fn chain(stages: List<Stage>, passed: Option<u32>) -> Stmt {
+    let chain = Chain { stages };
+    Stmt::Chain { chain, passed }
 }
 
 /// `aim<-m(value);`
-fn sent(alloc: Global, aim: Expr, value: Expr) -> Result<Stmt, NoMemory> {
-    let args = one(alloc, Arg::Expr(value))?;
-    let stage = send(alloc, Aim::Actor(aim), args)?;
-    chain(alloc, stage)
+fn sent(alloc: Global, aim: Expr, value: Expr) -> Stmt {
+    let args = one(alloc, Arg::Expr(value));
+    let stage = send(alloc, Aim::Actor(aim), args, List::new(alloc));
+    chain(one(alloc, stage), None)
 }
 
-/// `new B(1, "u") at ("u", "l")<-m(new int[2][]);`
-fn two_texts(alloc: Global) -> Result<Stmt, NoMemory> {
-    let place = at(alloc, Some(string(alloc, "l")?))?;
-    let args = and(one(alloc, number(1))?, string(alloc, "u")?)?;
-    let aim = new_actor(alloc, args, place)?;
-    sent(alloc, aim, make(alloc)?)
+/// `{ B x; }`, `if` with and without `else`, and `while`
+fn branches(alloc: Global) -> List<Stmt> {
+    let actor = sort(BaseName::Actor(text(alloc, "B")), 0);
+    let inner = one(alloc, Stmt::Declare(declare(alloc, actor, "x", None)));
+    let list = one(alloc, Stmt::Block(0, inner));
+    let test = level(alloc, name(alloc, "a"), Op::Same, string(alloc, "s"));
+    let body = Stmt::Assign(set(alloc, "y", Expr::Null(0)));
+    let no = Boxed::new(alloc, looped(alloc, Expr::Bool(false, 0), body)).ok();
+    let list = and(list, when(alloc, test, returned(None), no));
+    let test = suffixed(alloc, name(alloc, "n"), number(1));
+    and(list, when(alloc, test, Stmt::Empty(0), None))
 }
 
-/// `new B() at ("u")<-m(new boolean[]{false, null});`
-fn one_text(alloc: Global) -> Result<Stmt, NoMemory> {
-    let place = at(alloc, None)?;
-    let aim = new_actor(alloc, List::new(alloc), place)?;
-    sent(alloc, aim, list_of(alloc)?)
+/// `for` with all its parts, with an assignment, and with none
+fn loops(alloc: Global, list: List<Stmt>) -> List<Stmt> {
+    let first = declare(alloc, sort(BaseName::Int, 0), "i", Some(number(0)));
+    let test = level(alloc, name(alloc, "i"), Op::Less, number(3));
+    let sum = level(alloc, name(alloc, "i"), Op::Add, number(1));
+    let next = Some(set(alloc, "i", sum));
+    let full = counted(
+        alloc,
+        ForInit::Declare(first),
+        Some(test),
+        next,
+        Stmt::Empty(0),
+    );
+    let first = ForInit::Assign(set(alloc, "i", number(0)));
+    let assigned = counted(alloc, first, None, None, returned(Some(Expr::Me(0))));
+    let body = returned(Some(Expr::Me(0)));
+    let bare = counted(alloc, ForInit::Nothing, None, None, body);
+    and(and(and(list, full), assigned), bare)
 }
 
-/// `(B) B.getReferenceByName("u")<-m(B.getReferenceByName("u"));`
-fn names(alloc: Global) -> Result<Stmt, NoMemory> {
-    let cast = id(alloc, "B")?;
-    let aim = by_name(alloc, Some(cast))?;
-    sent(alloc, aim, by_name(alloc, None)?)
+/// `token t = self<-m(token, 1):delay(5):waitfor(a, b);`
+fn token(alloc: Global) -> Stmt {
+    let args = and(one(alloc, Arg::Token(0)), Arg::Expr(number(1)));
+    let names = and(one(alloc, id(alloc, "a")), id(alloc, "b"));
+    let time = number(5);
+    let delay = one(alloc, Property::Delay { at: 0, time });
+    let properties = and(delay, Property::WaitFor { at: 0, names });
+    let stages = one(
+        alloc,
+        send(alloc, Aim::Actor(Expr::Me(0)), args, properties),
+    );
+    let name = id(alloc, "t");
+    let chain = Chain { stages };
+    Stmt::Token { at: 0, name, chain }
+}
+
+/// `standardOutput<-m("x") @ join { m(); } @ currentContinuation;`
+fn passing(alloc: Global) -> Stmt {
+    let args = one(alloc, Arg::Expr(string(alloc, "x")));
+    let print = send(alloc, Aim::Output(0), args, List::new(alloc));
+    let own = send(alloc, Aim::Own, List::new(alloc), List::new(alloc));
+    let body = one(alloc, chain(one(alloc, own), None));
+    let stages = and(one(alloc, print), Stage::Join { at: 0, body });
+    chain(stages, Some(0))
 }
 
 /// `m(1 || 2, 1 && 2, ..);`
-fn operators(alloc: Global) -> Result<Stmt, NoMemory> {
+fn operators(alloc: Global) -> Stmt {
     let mut args = List::new(alloc);
     for op in [
         Op::Or,
@@ -342,133 +278,82 @@ fn operators(alloc: Global) -> Result<Stmt, NoMemory> {
         Op::Div,
         Op::Rem,
     ] {
-        args.push(Arg::Expr(level(alloc, number(1), op, number(2))?))?;
+        args = and(args, Arg::Expr(level(alloc, number(1), op, number(2))));
     }
-    let stage = send(alloc, Aim::Own, args)?;
-    chain(alloc, stage)
+    let stage = send(alloc, Aim::Own, args, List::new(alloc));
+    chain(one(alloc, stage), None)
 }
 
-fn branches(alloc: Global) -> Result<List<Stmt>, NoMemory> {
-    let list = one(alloc, inner_block(alloc)?)?;
-    let list = and(list, two_ways(alloc)?)?;
-    and(list, one_way(alloc)?)
+/// New actors, new arrays and references by name
+fn actors(alloc: Global, list: List<Stmt>) -> List<Stmt> {
+    let args = and(one(alloc, number(1)), string(alloc, "u"));
+    let placed = new_actor(alloc, args, Some(string(alloc, "l")));
+    let named = new_actor(alloc, List::new(alloc), None);
+    let items = and(one(alloc, Expr::Bool(false, 0)), Expr::Null(0));
+    let sort = sort(BaseName::Boolean, 1);
+    let values = Expr::ListOf { at: 0, sort, items };
+    let cast = by_name(alloc, Some(id(alloc, "B")));
+    let list = and(list, sent(alloc, placed, make(alloc)));
+    let list = and(list, sent(alloc, named, values));
+    and(list, sent(alloc, cast, by_name(alloc, None)))
 }
 
-fn loops(alloc: Global, list: List<Stmt>) -> Result<List<Stmt>, NoMemory> {
-    let list = and(list, counted(alloc)?)?;
-    let list = and(list, assigned(alloc)?)?;
-    and(list, bare(alloc, ForInit::Nothing)?)
-}
-
-fn chains(alloc: Global) -> Result<List<Stmt>, NoMemory> {
-    let list = one(alloc, token(alloc)?)?;
-    let list = and(list, passing(alloc)?)?;
-    and(list, operators(alloc)?)
-}
-
-fn actors(alloc: Global, list: List<Stmt>) -> Result<List<Stmt>, NoMemory> {
-    let list = and(list, two_texts(alloc)?)?;
-    let list = and(list, one_text(alloc)?)?;
-    and(list, names(alloc)?)
-}
-
-/// `int[][] n = new int[2][];`
-fn field(alloc: Global) -> Result<Member, NoMemory> {
-    let name = id(alloc, "n")?;
-    let init = make(alloc)?;
-    Ok(Member::Field {
-        sort: sort(BaseName::Int, 2),
+fn handler(alloc: Global, answer: Option<TypeName>, text: &str, body: List<Stmt>) -> Member {
+    let name = id(alloc, text);
+    let params = List::new(alloc);
+    Member::Handler {
+        result: answer,
         name,
-        init: Some(init),
-    })
+        params,
+        body,
+    }
+}
+
+fn param(alloc: Global, sort: TypeName, text: &str) -> Param {
+    let name = id(alloc, text);
+    Param { sort, name }
 }
 
 /// `B(int a, String[] b) { this.n[0] = -this.k; ; }`
-fn constructor(alloc: Global) -> Result<Member, NoMemory> {
-    let a = Param {
-        sort: sort(BaseName::Int, 0),
-        name: id(alloc, "a")?,
+fn constructor(alloc: Global) -> Member {
+    let first = one(alloc, param(alloc, sort(BaseName::Int, 0), "a"));
+    let params = and(first, param(alloc, sort(BaseName::Str, 1), "b"));
+    let value = negative(alloc, Expr::Own(0, id(alloc, "k")));
+    let stmt = assign(alloc, true, "n", one(alloc, number(0)), value);
+    let body = and(one(alloc, Stmt::Assign(stmt)), Stmt::Empty(0));
+    let name = id(alloc, "B");
+    Member::Constructor { name, params, body }
+}
+
+/// A field, the constructor, and handlers `m` with a result, `p` and `q`
+fn members(alloc: Global) -> List<Member> {
+    let field = Member::Field {
+        sort: sort(BaseName::Int, 2),
+        name: id(alloc, "n"),
+        init: Some(make(alloc)),
     };
-    let b = Param {
-        sort: sort(BaseName::Str, 1),
-        name: id(alloc, "b")?,
-    };
-    let params = and(one(alloc, a)?, b)?;
-    let body = and(one(alloc, own_field(alloc)?)?, Stmt::Empty(0))?;
-    let name = id(alloc, "B")?;
-    Ok(Member::Constructor { name, params, body })
+    let value = Some(not(alloc, Expr::Bool(true, 0)));
+    let answer = one(alloc, returned(value));
+    let truth = Some(sort(BaseName::Boolean, 0));
+    let statements = loops(alloc, branches(alloc));
+    let chains = and(one(alloc, token(alloc)), passing(alloc));
+    let messages = actors(alloc, and(chains, operators(alloc)));
+    let list = and(one(alloc, field), constructor(alloc));
+    let list = and(list, handler(alloc, truth, "m", answer));
+    let list = and(list, handler(alloc, None, "p", statements));
+    and(list, handler(alloc, None, "q", messages))
 }
 
-/// `this.n[0] = -this.k;`
-fn own_field(alloc: Global) -> Result<Stmt, NoMemory> {
-    let k = Boxed::new(alloc, Expr::Own(0, id(alloc, "k")?))?;
-    let indexes = one(alloc, number(0))?;
-    let stmt = assign(alloc, true, "n", indexes, Expr::Neg(0, k))?;
-    Ok(Stmt::Assign(stmt))
+fn behavior(alloc: Global, text: &str, members: List<Member>) -> Behavior {
+    let name = id(alloc, text);
+    Behavior { name, members }
 }
 
-/// `boolean m() { return !(true); }`
-fn answer(alloc: Global) -> Result<Member, NoMemory> {
-    let value = not_true(alloc)?;
-    let returned = Stmt::Return {
-        at: 0,
-        value: Some(value),
-    };
-    let body = one(alloc, returned)?;
-    let name = id(alloc, "m")?;
-    Ok(Member::Handler {
-        result: Some(sort(BaseName::Boolean, 0)),
-        name,
-        params: List::new(alloc),
-        body,
-    })
-}
-
-/// `void text() { .. }`
-fn handler(alloc: Global, text: &str, body: List<Stmt>) -> Result<Member, NoMemory> {
-    let name = id(alloc, text)?;
-    Ok(Member::Handler {
-        result: None,
-        name,
-        params: List::new(alloc),
-        body,
-    })
-}
-
-/// `void p() { .. }`
-fn statements(alloc: Global) -> Result<Member, NoMemory> {
-    let list = loops(alloc, branches(alloc)?)?;
-    handler(alloc, "p", list)
-}
-
-/// `void q() { .. }`
-fn messages(alloc: Global) -> Result<Member, NoMemory> {
-    let list = actors(alloc, chains(alloc)?)?;
-    handler(alloc, "q", list)
-}
-
-fn short_members(alloc: Global) -> Result<List<Member>, NoMemory> {
-    let list = one(alloc, field(alloc)?)?;
-    let list = and(list, constructor(alloc)?)?;
-    and(list, answer(alloc)?)
-}
-
-fn members(alloc: Global) -> Result<List<Member>, NoMemory> {
-    let list = short_members(alloc)?;
-    let list = and(list, statements(alloc)?)?;
-    and(list, messages(alloc)?)
-}
-
-fn behavior(alloc: Global, text: &str, members: List<Member>) -> Result<Behavior, NoMemory> {
-    let name = id(alloc, text)?;
-    Ok(Behavior { name, members })
-}
-
-fn program(alloc: Global) -> Result<Program, NoMemory> {
-    let first = behavior(alloc, "B", members(alloc)?)?;
-    let list = one(alloc, first)?;
-    let behaviors = and(list, behavior(alloc, "C", List::new(alloc))?)?;
-    Ok(Program { behaviors })
+fn program(alloc: Global) -> Program {
+    let first = behavior(alloc, "B", members(alloc));
+    let last = behavior(alloc, "C", List::new(alloc));
+    let behaviors = and(one(alloc, first), last);
+    Program { behaviors }
 }
 
 fn letter(kind: Kind) -> &'static str {
@@ -511,7 +396,7 @@ fn wanted(alloc: Global) -> Result<(Text, Text), NoMemory> {
 
 #[test]
 fn a_program_of_every_form_is_spelled(rt: HostRuntime) -> Result<(), Fail> {
-    let program = program(rt.alloc())?;
+    let program = program(rt.alloc());
     assert_eq!(rt; program.depth(), 2);
     let (texts, kinds) = spelled(rt.alloc(), &program)?;
     let (want, letters) = wanted(rt.alloc())?;
