@@ -1,5 +1,5 @@
 -- The equations of `eval`, one for each form.
-use Rattle.std.proofs.Common.{◌≡◌, ℕ, Bool, List, [], map, Option, Some, None, option_map, sym, ap, ◌∙◌}
+use Rattle.std.proofs.Common.{◌≡◌, ℕ, Bool, List, map, Option, Some, None, option_map, sym, ap, ◌∙◌}
 use Rattle.sal_ast.specs.declared.program.Ident.{Ident}
 use Rattle.sal_ast.specs.declared.program.TypeName.{TypeName}
 use Rattle.sal_ast.specs.declared.expression.Expr.{Expr}
@@ -10,7 +10,6 @@ use Rattle.sal_ast.specs.declared.expression.Expr.TheOpen.{Expr-F, Suffix-F}
 use Rattle.sal_ast.specs.declared.expression.Expr.TheFolds.{fold-roll-Expr, fold-roll-Suffix, fold_out-At, fold_out-Operand}
 use Rattle.sal_ast.specs.declared.expression.Expr.TheVariants as e
 use Rattle.sal_ast.specs.declared.expression.Suffix.TheVariants as x
-use Rattle.sal_handler.specs.declared.state.State.{State}
 use Rattle.sal_handler.specs.Expressions.{Mean, Behind, Where, Part, expr_step, suffix_step, at_step, operand_step, eval, suffix, located, operand}
 
 pub eval-Number : (n at : ℕ) → eval (e.Number n at) ≡ expr_step (Expr-F.Number n at)

@@ -11,10 +11,10 @@ use Rattle.sal_ast.specs.declared.statement.Stage.{Stage}
 use Rattle.sal_ast.specs.declared.statement.Chain.{Chain}
 use Rattle.sal_ast.specs.declared.statement.Stage.TheOpen.{Stage-F, Stmt-F, Chain-F}
 use Rattle.sal_ast.specs.declared.statement.Stage.TheViews.{roll-Stage, roll-Stmt, roll-Chain}
-use Rattle.sal_ast.specs.declared.statement.Stage.TheFolds.{map-Stage, map-Stmt, map-Chain, fold-roll-Stage, fold-roll-Stmt, fold-roll-Chain, fold_out-Chain, ind-Stage, ind-Stmt}
+use Rattle.sal_ast.specs.declared.statement.Stage.TheFolds.{map-Stage, map-Stmt, map-Chain, fold-roll-Stage, fold-roll-Stmt, fold-roll-Chain, fold_out-Chain, ind-Stmt}
 use Rattle.sal_ast.specs.declared.statement.Stmt.TheVariants as t
 use Rattle.sal_ast.specs.declared.statement.Stage.TheVariants as g
-use Rattle.sal_handler.specs.Statements.{StageSense, Sense, ChainSense, StageRun, stage_step, stmt_step, chain_step, stage_run, stmt_run, chain_runs, stage_sense, sense, chain_sense, exec, stage, part, doing, blocked, ended, named, declared, assigned, truth, while_true, for_all, begun, goes_on, stepped, first_value, join}
+use Rattle.sal_handler.specs.Statements.{StageSense, Sense, ChainSense, stage_step, stmt_step, chain_step, stage_sense, sense, chain_sense, exec, stage, part, doing, blocked, ended, named, declared, assigned, truth, while_true, for_all, begun, goes_on, stepped, first_value, join}
 use Rattle.sal_value.specs.declared.value.Value.TheVariants.{Null}
 use Rattle.sal_ast.specs.Sorts.{is_void_join}
 use Rattle.sal_ast.proofs.Closing.{Known}
@@ -89,7 +89,6 @@ TP x = (sense x).0 ≡ x
 
 abbrev CP : Chain → Type 0
 CP x = (chain_sense x).0 ≡ x
-
 
 abbrev LayerG : Type 0
 LayerG = Stage-F (Known Stage GP) (Known Stmt TP) (Known Chain CP)

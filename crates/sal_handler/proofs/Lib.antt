@@ -1,2 +1,4 @@
 pub mod Evaluations
 pub mod Executions
+pub mod Listed
+pub mod Sending

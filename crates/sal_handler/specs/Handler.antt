@@ -1,5 +1,5 @@
 -- One handler as a whole, the making of actors, and how a program begins.
-use Rattle.std.specs.Prelude.{ℕ, ◌+◌, Bool, true, false, ◌&&◌, nat_eq, nat_lt, if◌then◌else◌, List, [], ◌∷◌, length, map, filter_map, slice_get, slice_set, codes, Option, Some, None, Ok, Err}
+use Rattle.std.specs.Prelude.{ℕ, ◌+◌, Bool, true, false, ◌&&◌, nat_eq, nat_lt, if◌then◌else◌, List, [], ◌∷◌, length, map, slice_get, slice_set, codes, Option, Some, None, Ok, Err}
 use Rattle.std.specs.List.{position}
 use Rattle.std.specs.Str.{bytes_eq}
 use Rattle.sal_value.specs.declared.name.Ual.{Ual}
@@ -31,7 +31,7 @@ use Rattle.sal_handler.specs.declared.turn.Outcome.TheVariants as outcome
 use Rattle.sal_handler.specs.declared.turn.Began.{Began}
 use Rattle.sal_handler.specs.declared.turn.Began.TheVariants as began
 use Rattle.sal_handler.specs.Evaluation.{Checked, and_then, Eval, ◌>>=◌, ◌>>◌, pure}
-use Rattle.sal_handler.specs.Values.{default_of, text_of, item_at}
+use Rattle.sal_handler.specs.Values.{default_of, text_of}
 use Rattle.sal_handler.specs.Scopes.{Reads}
 use Rattle.sal_handler.specs.Expressions.{Make, eval}
 use Rattle.sal_handler.specs.Statements.{block}
@@ -125,9 +125,13 @@ abbrev pub moved : Option Ual → Call → Checked Effects
 moved (Some l) c = Ok (unchanged c)
 moved None c = Err BadLocator
 
+abbrev pub first_text : List Value → List ℕ
+first_text [] = []
+first_text (v ∷ vs) = text_of v
+
 -- `migrate` does nothing here but trap on a text that is no locator
 abbrev pub migrated : Call → Checked Effects
-migrated c = moved (ual_of (text_of (item_at c.args 0))) c
+migrated c = moved (ual_of (first_text c.args)) c
 
 abbrev pub ran_from : Program → Call → Checked Effects
 ran_from p c = if nat_eq c.handler 65535 then migrated c else ran_in (slice_get p.behaviors c.behavior) p c

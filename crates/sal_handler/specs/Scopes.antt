@@ -8,7 +8,6 @@ use Rattle.sal_value.specs.declared.value.Sort.{Sort}
 use Rattle.sal_value.specs.declared.value.Value.{Value}
 use Rattle.sal_value.specs.declared.value.Value.TheVariants.{Null}
 use Rattle.sal_ast.specs.declared.program.Behavior.{Behavior}
-use Rattle.sal_ast.specs.Members.{fields_of}
 use Rattle.sal_ast.specs.Sorts.{Scope, Variable, fields_in}
 use Rattle.sal_mail.specs.declared.message.Reply.{Reply}
 use Rattle.sal_mail.specs.declared.fault.Trap.TheVariants.{TooManyTurns, TooManyMessages}

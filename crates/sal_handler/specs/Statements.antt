@@ -1,5 +1,5 @@
 -- What a statement does, made of what its parts do.
-use Rattle.std.specs.Prelude.{ℕ, zero, suc, ℤ, Bool, true, if◌then◌else◌, List, [], ◌∷◌, ◌++◌, length, map, replicate, slice_set, Option, Some, None, Ok, Err}
+use Rattle.std.specs.Prelude.{ℕ, zero, suc, Bool, true, if◌then◌else◌, List, [], ◌∷◌, ◌++◌, length, map, replicate, slice_set, Option, Some, None, Ok}
 use Rattle.sal_value.specs.declared.value.Value.{Value}
 use Rattle.sal_value.specs.declared.value.Value.TheVariants.{Null}
 use Rattle.sal_ast.specs.declared.expression.Expr.{Expr}
@@ -16,8 +16,6 @@ use Rattle.sal_ast.specs.declared.statement.Stage.TheFolds.{map-Stage, map-Stmt,
 use Rattle.sal_ast.specs.Sorts.{type_sort, is_void_join}
 use Rattle.sal_mail.specs.declared.fault.Trap.TheVariants.{TooManyTurns}
 use Rattle.sal_mail.specs.declared.message.Reply.{Reply}
-use Rattle.sal_mail.specs.declared.message.Reply.TheVariants as reply
-use Rattle.sal_mail.specs.declared.message.Join.{Join}
 use Rattle.sal_handler.specs.declared.state.End.{End}
 use Rattle.sal_handler.specs.declared.state.End.TheVariants as end
 use Rattle.sal_handler.specs.declared.state.Flow.{Flow}

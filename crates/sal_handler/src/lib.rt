@@ -1,8 +1,12 @@
 //! What one handler does: the definitions, and the types that they speak of.
 #![tactic(auto)]
 
+mod law;
+mod prints;
 mod state;
 mod turn;
 
+pub use law::chains_of_prints_are_sent;
+pub use prints::{begin_prints, handle_prints};
 pub use state::{End, Flow, Held, Inside, Local, State, Stop};
 pub use turn::{Began, Outcome, Turn};

@@ -17,7 +17,8 @@ mod value;
 
 pub use boxed::Boxed;
 pub use laws::{
-    keys_tell_names, locators_are_read, names_are_decoded, names_are_read, values_are_decoded,
+    keys_tell_names, locators_are_read, names_are_decided, names_are_decoded, names_are_given,
+    names_are_read, names_are_refused_once, values_are_decoded,
 };
 pub use list::List;
 pub use name::{Authority, Name, NameFault, Ual, Uan};

@@ -1,0 +1,268 @@
+//! What one handler of a program does that is one chain of prints.
+
+ghost use Rattle.std.specs.Prelude.{◌≡◌, ◌≢◌, ◌+◌, ◌≤◌, None, is_some, length, IfOk};
+ghost use Rattle.sal_value.specs.Names.{ual_of};
+ghost use Rattle.sal_handler.specs.Calls.{call};
+ghost use Rattle.sal_handler.specs.Listing as spec;
+ghost use Rattle.sal_handler.specs.Handler.{handle, begin, first_text, migrated, unchanged, outcome_of};
+ghost use Rattle.sal_handler.specs.Values.{text_of};
+ghost use Rattle.sal_handler.specs.Prints.{IsChainOfPrints, waits_for};
+
+use crate::turn::{Began, Outcome, Turn};
+use sal_ast::{Arg, Behavior, Expr, Member, Program, Stage, Stmt};
+use sal_mail::{Answer, Effects, Message, Piece, Reply, Target, Trap};
+use sal_value::{List, Name, NameFault, NoMemory, Ual, Value, Values, names_are_given};
+use std::alloc::Global;
+
+/// The behaviour of the output, and the number of `migrate`.
+const RESERVED: u16 = 65_535;
+
+/// Above this next number fewer than 4,096 numbers are left.
+const LAST_SERIAL: u64 = u64::MAX - 4095;
+
+fn stages_of_body(body: &[Stmt]) -> &[Stage]
+    ensures { result.now ≡ spec.stages_in_body body.now }
+{
+    match body {
+        [Stmt::Chain { chain, .. }] => chain.stages.as_slice(),
+        _ => &[],
+    }
+}
+
+fn stages_of_behavior(behavior: &Behavior) -> &[Stage]
+    ensures { result.now ≡ spec.stages_in_behavior behavior.now.members }
+{
+    match behavior.members.as_slice() {
+        [Member::Handler { body, .. }] => stages_of_body(body.as_slice()),
+        _ => &[],
+    }
+}
+
+fn stages_of(program: &Program) -> &[Stage]
+    ensures { result.now ≡ spec.stages_in program.now }
+{
+    match program.behaviors.as_slice() {
+        [behavior] => stages_of_behavior(behavior),
+        _ => &[],
+    }
+}
+
+fn argument(alloc: Global, args: &[Arg]) -> Result<List<Piece>, NoMemory>
+    ensures { IfOk result (λ pieces. pieces ≡ spec.argument_in args.now) }
+{
+    let mut pieces = List::new(alloc);
+    if let [Arg::Expr(Expr::Str(text, _))] = args {
+        pieces.push(Piece::Known(Value::Str(text.clone_in(alloc)?)))?;
+    }
+    Ok(pieces)
+}
+
+fn waits(alloc: Global, before: Option<u64>) -> Result<List<u64>, NoMemory>
+    ensures { IfOk result (λ after. after ≡ waits_for before) }
+{
+    let mut after = List::new(alloc);
+    if let Some(number) = before {
+        after.push(number)?;
+    }
+    Ok(after)
+}
+
+/// `print` or `println`, by their numbers.
+fn output_handler(name: &str) -> u16
+    ensures { result ≡ spec.output_handler name.now }
+{
+    if name == "println" { 1 } else { 0 }
+}
+
+/// To whom a stage with `left` stages behind it owes its reply.
+fn owed(alloc: Global, me: &Name, number: u64, left: usize) -> Result<Reply, NoMemory>
+    ensures { IfOk result (λ owes. owes ≡ spec.owed_left me.now number left) }
+{
+    if left == 0 {
+        return Ok(Reply::Nobody);
+    }
+    Ok(Reply::Tok(me.clone_in(alloc)?, number))
+}
+
+#[tactic(auto, unfolding(crate::specs::Listing::message_in))]
+fn message(
+    alloc: Global,
+    me: &Name,
+    before: Option<u64>,
+    number: u64,
+    stage: &Stage,
+    owes: Reply,
+) -> Result<Message, NoMemory>
+    ensures { IfOk result (λ m. m ≡ spec.message_in me.now before number stage.now owes) }
+{
+    let (handler, args) = match stage {
+        Stage::Message(send) => (
+            output_handler(send.handler.text.as_str()),
+            argument(alloc, send.args.as_slice())?,
+        ),
+        Stage::Join { .. } => (0, List::new(alloc)),
+    };
+    Ok(Message {
+        maker: me.clone_in(alloc)?,
+        serial: number,
+        target: Target::Output,
+        behavior: RESERVED,
+        handler,
+        args,
+        after: waits(alloc, before)?,
+        delay: 0,
+        reply: owes,
+    })
+}
+
+/// One message for each stage, numbered from `first` on.
+fn messages(
+    alloc: Global,
+    me: &Name,
+    first: u64,
+    stages: &[Stage],
+) -> Result<List<Message>, NoMemory>
+    requires room { first + length stages.now ≤ 18446744073709551615 }
+    ensures { IfOk result (λ ms. ms ≡ spec.messages_in me.now None first stages.now) }
+{
+    let mut sent = List::new(alloc);
+    let mut before = None;
+    let mut number = first;
+    let mut left = stages.len();
+    for stage in stages {
+        left -= 1;
+        let owes = owed(alloc, me, number, left)?;
+        sent.push(message(alloc, me, before, number, stage, owes)?)?;
+        before = Some(number);
+        number += 1;
+    }
+    Ok(sent)
+}
+
+fn copied(alloc: Global, values: &[Value]) -> Result<Values, NoMemory>
+    ensures { IfOk result (λ copies. copies ≡ values.now) }
+{
+    let mut copies = List::new(alloc);
+    for value in values {
+        copies.push(value.clone_in(alloc)?)?;
+    }
+    Ok(copies)
+}
+
+/// Effects that send these messages, and answer null.
+fn effects(
+    alloc: Global,
+    turn: &Turn<'_>,
+    messages: List<Message>,
+    serial: u64,
+) -> Result<Effects, NoMemory>
+    ensures { IfOk result (λ e. e ≡ record (unchanged (call turn.now)) { messages = messages; serial = serial; fresh = turn.now.fresh }) }
+{
+    Ok(Effects {
+        fields: copied(alloc, turn.fields.as_slice())?,
+        answer: Answer::Value(Value::Null),
+        messages,
+        joins: List::new(alloc),
+        actors: List::new(alloc),
+        creations: List::new(alloc),
+        serial,
+        fresh: turn.fresh,
+    })
+}
+
+/// Of what is no text, the empty one.
+#[tactic(auto, unfolding(crate::specs::Values::text_of))]
+fn text_of(value: &Value) -> &[u8]
+    ensures { result.now ≡ text_of value.now }
+{
+    match value {
+        Value::Str(text) => text.as_bytes(),
+        Value::Int(_) | Value::Bool(_) | Value::Array(_) | Value::Ref(_) | Value::Null => &[],
+    }
+}
+
+fn first_text(values: &[Value]) -> &[u8]
+    ensures { result.now ≡ first_text values.now }
+{
+    match values {
+        [value, ..] => text_of(value),
+        [] => &[],
+    }
+}
+
+/// Whether a text is a locator.
+fn is_locator(alloc: Global, text: &[u8]) -> Result<bool, NoMemory>
+    ensures { IfOk result (λ it. it ≡ is_some (ual_of text.now)) }
+{
+    names_are_given();
+    let Err(fault) = Ual::read(alloc, text) else {
+        return Ok(true);
+    };
+    if fault == NameFault::Memory {
+        return Err(NoMemory);
+    }
+    Ok(false)
+}
+
+fn migrated(alloc: Global, turn: &Turn<'_>) -> Result<Outcome, NoMemory>
+    ensures { IfOk result (λ it. it ≡ outcome_of (migrated (call turn.now))) }
+{
+    if !is_locator(alloc, first_text(turn.args.as_slice()))? {
+        return Ok(Outcome::Trap(Trap::BadLocator));
+    }
+    Ok(Outcome::Done(effects(alloc, turn, List::new(alloc), turn.serial)?))
+}
+
+/// What `act` does: it sends a message for each stage.
+fn acted(alloc: Global, program: &Program, turn: &Turn<'_>) -> Result<Outcome, NoMemory>
+    requires form { IsChainOfPrints program.now }
+    requires act { (turn.now.behavior ≡ 0) × (turn.now.handler ≡ 0) }
+    requires room { turn.now.serial ≤ 18446744073709547520 }
+    ensures { IfOk result (λ it. it ≡ handle program.now (call turn.now)) }
+{
+    let stages = stages_of(program);
+    let messages = messages(alloc, turn.me, turn.serial, stages)?;
+    let serial = turn.serial + stages.len() as u64;
+    Ok(Outcome::Done(effects(alloc, turn, messages, serial)?))
+}
+
+/// The program has no other handler, so nothing changes.
+fn other(alloc: Global, program: &Program, turn: &Turn<'_>) -> Result<Outcome, NoMemory>
+    requires form { IsChainOfPrints program.now }
+    requires room { turn.now.serial ≤ 18446744073709547520 }
+    requires other { turn.now.handler ≢ 65535 }
+    requires no_act { turn.now.behavior ≡ 0 → turn.now.handler ≡ 0 → ⊥ }
+    ensures { IfOk result (λ it. it ≡ handle program.now (call turn.now)) }
+{
+    Ok(Outcome::Done(effects(alloc, turn, List::new(alloc), turn.serial)?))
+}
+
+/// What one handler of a program does that is one chain of prints.
+#[tactic(auto, unfolding(crate::specs::Handler::handle))]
+pub fn handle_prints(alloc: Global, program: &Program, turn: &Turn<'_>) -> Result<Outcome, NoMemory>
+    requires form { IsChainOfPrints program.now }
+    ensures { IfOk result (λ it. it ≡ handle program.now (call turn.now)) }
+{
+    if turn.serial > LAST_SERIAL {
+        return Ok(Outcome::Trap(Trap::TooManyMessages));
+    }
+    if turn.handler == RESERVED {
+        return migrated(alloc, turn);
+    }
+    if turn.behavior == 0 && turn.handler == 0 {
+        return acted(alloc, program, turn);
+    }
+    other(alloc, program, turn)
+}
+
+/// How such a program begins: with an actor without fields.
+pub fn begin_prints(alloc: Global, program: &Program) -> Began
+    requires form { IsChainOfPrints program.now }
+    ensures { result ≡ begin program.now }
+{
+    Began::Actor {
+        behavior: 0,
+        handler: 0,
+        fields: List::new(alloc),
+    }
+}
