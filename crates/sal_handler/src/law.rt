@@ -1,7 +1,13 @@
+ghost use Rattle.sal_handler.specs.Loops.{LoopsStopThemselves};
 ghost use Rattle.sal_handler.specs.Prints.{ChainsOfPrintsAreSent};
 
 /// A program that is one chain of prints begins with an actor without fields, whose handler `act` sends
 /// the stages as messages.
 pub fn chains_of_prints_are_sent()
     ensures { ChainsOfPrintsAreSent }
+{}
+
+/// A loop's bound never shows, and no handler begins more than 100,000 loop turns.
+pub fn loops_stop_themselves()
+    ensures { LoopsStopThemselves }
 {}

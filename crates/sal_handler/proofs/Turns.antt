@@ -1,0 +1,420 @@
+-- The count of loop turns doesn't go back, nor past 100,000.
+use Rattle.std.proofs.Common.{◌≡◌, ℕ, zero, suc, ◌+◌, ◌≤◌, ◌<◌, ℤ, Bool, true, false, if◌then◌else◌, List, [], ◌∷◌, ◌++◌, length, map, Option, Some, None, Ok, Err, refl, ap, ◌∙◌, arith}
+use Rattle.std.specs.Prelude.{nat_lt}
+use Rattle.std.proofs.lemmas.Bool.{ltb-true}
+use Rattle.sal_mail.specs.declared.fault.Trap.{Trap}
+use Rattle.sal_mail.specs.declared.fault.Trap.TheVariants.{TooManyMessages}
+use Rattle.sal_value.specs.declared.value.Value.{Value}
+use Rattle.sal_ast.specs.declared.expression.Expr.{Expr}
+use Rattle.sal_ast.specs.declared.expression.Expr.TheOpen.{Expr-F}
+use Rattle.sal_handler.specs.declared.state.State.{State}
+use Rattle.sal_handler.specs.Evaluation.{Checked, and_then, Eval, ◌>>=◌, ◌>>◌, pure, lift, trap, require}
+use Rattle.sal_handler.specs.Scopes as c
+use Rattle.sal_handler.specs.Scopes.{Reads, scoped}
+use Rattle.sal_handler.specs.Expressions as x
+use Rattle.sal_handler.specs.Expressions.{Mean, Behind, Where, Part, Make, eval, expr_step}
+use Rattle.std.specs.Prelude.{slice_get, slice_set}
+use Rattle.sal_ast.specs.declared.statement.Declare.{Declare}
+use Rattle.sal_ast.specs.declared.statement.Assign.{Assign}
+use Rattle.sal_ast.specs.declared.statement.ForInit.{ForInit}
+use Rattle.sal_ast.specs.declared.statement.ForInit.TheVariants as init
+use Rattle.sal_ast.specs.declared.statement.Aim.{Aim}
+use Rattle.sal_ast.specs.declared.statement.Aim.TheVariants as aim
+use Rattle.sal_ast.specs.declared.statement.Send.{Send}
+use Rattle.sal_ast.specs.declared.statement.Arg.{Arg}
+use Rattle.sal_ast.specs.declared.statement.Arg.TheVariants as arg
+use Rattle.sal_ast.specs.declared.statement.Property.{Property}
+use Rattle.sal_ast.specs.declared.statement.Property.TheVariants as property
+use Rattle.sal_ast.specs.declared.statement.Stmt.{Stmt}
+use Rattle.sal_ast.specs.declared.statement.Stage.TheOpen.{Stage-F, Stmt-F}
+use Rattle.sal_mail.specs.declared.message.Target.{Target}
+use Rattle.sal_mail.specs.declared.message.Piece.{Piece}
+use Rattle.sal_mail.specs.declared.message.Reply.{Reply}
+use Rattle.sal_handler.specs.declared.state.End.{End}
+use Rattle.sal_handler.specs.declared.state.End.TheVariants as end
+use Rattle.sal_handler.specs.declared.state.Flow.{Flow}
+use Rattle.sal_handler.specs.declared.state.Flow.TheVariants.{Next, Returned, Passed}
+use Rattle.sal_handler.specs.declared.state.Inside.{Inside}
+use Rattle.sal_handler.specs.declared.state.Local.{Local}
+use Rattle.sal_handler.specs.Values as w
+use Rattle.sal_handler.specs.Messages as m
+use Rattle.sal_handler.specs.Statements as t
+use Rattle.sal_handler.specs.Statements.{StageSense, Sense, ChainSense, StageRun, Run, stage_run, stmt_run, exec, doing}
+use Rattle.sal_handler.specs.Loops.{LoopsStopThemselves}
+use Rattle.sal_handler.proofs.After.{After, then_after, after_more, lift_after, when, after_is}
+use Rattle.sal_handler.proofs.Induction.{EachOf, IfAny, OfBehind, OfWhere, OfPart, OfExpr, of_expr, OfSense, OfStage, OfStmt, of_stmt, of_block}
+
+abbrev Rise : State → State → Type 0
+Rise s t = (s.turns ≤ t.turns) × (s.turns ≤ 100000 → t.turns ≤ 100000)
+
+record Rises {A : Type 0} (m : Eval A) : Type 0 where
+  at : (s : State) → After (λ (a : A). λ t. Rise s t) (m s)
+
+same : (s t : State) → s.turns ≡ t.turns → Rise s t
+same s t e = (omega arith, λ l. omega arith)
+
+rises_pure : {A : Type 0} (a : A) → Rises (pure a)
+rises_pure a = record { at = λ s. same s s refl }
+
+rises_trap : (A : Type 0) (k : Trap) → Rises (trap {A = A} k)
+rises_trap A k = record { at = λ s. tt }
+
+rises_then : {A B : Type 0} (m : Eval A) (g : A → Eval B) → Rises m → ((a : A) → Rises (g a)) → Rises (m >>= g)
+rises_then {A} {B} m g rm rg = record {
+  at = λ s.
+      then_after (λ (a : A). λ t. Rise s t) (λ (b : B). λ u. Rise s u) (m s) g (rm.at s) (λ a t p.
+      after_more (λ (b : B). λ u. Rise t u) (λ (b : B). λ u. Rise s u) (g a t) (λ b u q. (omega (arith, p.0, q.0), λ l. q.1 (p.1 l))) ((rg a).at t));
+}
+
+rises_lift : {A : Type 0} (o : Checked A) → Rises (lift o)
+rises_lift {A} o = record { at = λ s. lift_after (λ (a : A). λ t. Rise s t) o s (λ a e. same s s refl) }
+
+rises_if : {A : Type 0} (b : Bool) (m n : Eval A) → Rises m → Rises n → Rises (if b then m else n)
+rises_if true m n f g = f
+rises_if false m n f g = g
+
+required : (b : Bool) (k : Trap) → Rises (require b k)
+required b k = rises_if b (pure tt) (trap k) (rises_pure tt) (rises_trap (Unit {0}) k)
+
+-- ---- expressions
+
+abbrev P : Mean → Type 0
+P e = (r : Reads) → Rises (e r)
+
+all_rise : (es : List Mean) → EachOf P es → (r : Reads) (done : List Value) → Rises (x.all es r done)
+all_rise [] p r done = rises_pure done
+all_rise (e ∷ es) p r done = rises_then (e r) (λ v. x.all es r (done ++ v ∷ [])) (p.0 r) (λ v. all_rise es p.1 r (done ++ v ∷ []))
+
+operated_rises : (p : Part) → P p.1 → (v : Value) (r : Reads) → Rises (x.operated p v r)
+operated_rises p f v r = rises_if _ _ _ (rises_pure _) (rises_then (p.1 r) _ (f r) (λ w. rises_lift _))
+
+level_rises : (ps : List Part) → EachOf (OfPart P) ps → (v : Value) (r : Reads) → Rises (x.level v ps r)
+level_rises [] f v r = rises_pure v
+level_rises (p ∷ ps) f v r = rises_then (x.operated p v r) (λ w. x.level w ps r) (operated_rises p f.0 v r) (λ w. level_rises ps f.1 w r)
+
+suffixed_by_rises : (b : Behind) → OfBehind P b → (v : Value) (r : Reads) → Rises (x.suffixed_by b v r)
+suffixed_by_rises None f v r = rises_pure _
+suffixed_by_rises (Some e) f v r = rises_then (e r) _ (f r) (λ i. rises_lift _)
+
+suffixed_rises : (bs : List Behind) → EachOf (OfBehind P) bs → (v : Value) (r : Reads) → Rises (x.suffixed v bs r)
+suffixed_rises [] f v r = rises_pure v
+suffixed_rises (b ∷ bs) f v r = rises_then (x.suffixed_by b v r) (λ w. x.suffixed w bs r) (suffixed_by_rises b f.0 v r) (λ w. suffixed_rises bs f.1 w r)
+
+perhaps_rises : (o : Option Mean) → IfAny P o → (r : Reads) → Rises (x.perhaps o r)
+perhaps_rises None f r = rises_pure None
+perhaps_rises (Some e) f r = rises_then (e r) _ (f r) (λ v. rises_pure (Some v))
+
+number_rises : Rises c.take_number
+number_rises = record { at = λ s. when (λ (n : ℕ). λ t. Rise s t) (nat_lt s.serial 18446744073709551615) _ _ (λ e. same s (record s { serial = s.serial + 1 }) refl) (λ e. tt) }
+
+counted_rises : (n : ℕ) → Rises (c.next_number n)
+counted_rises n = record { at = λ s. when (λ (n : ℕ). λ t. Rise s t) (nat_lt n 1024) _ _ (λ e. number_rises.at s) (λ e. tt) }
+
+room_rises : Rises x.room_for_actor
+room_rises = record { at = λ s. (required (nat_lt (length s.actors + length s.creations) 1024) TooManyMessages).at s }
+
+name_rises : (v : Value) → Rises (x.name_from v)
+name_rises v = rises_lift _
+
+locator_rises : (o : Option Value) → Rises (x.locator_from o)
+locator_rises None = rises_pure None
+locator_rises (Some v) = rises_then (lift _) _ (rises_lift _) (λ l. rises_pure (Some l))
+
+create_rises : (make : Make) (b : ℕ) (args : List Value) (r : Reads) → Rises (x.create make b args r)
+create_rises make b args r = rises_then x.room_for_actor _ room_rises (λ _. rises_then (lift (make b args)) _ (rises_lift (make b args)) (λ fs. record { at = λ s. same s s refl }))
+
+create_at_rises : (make : Make) (b : ℕ) (args : List Value) (uan : Value) (ual : Option Value) → Rises (x.create_at make b args uan ual)
+create_at_rises make b args uan ual =
+    rises_then x.room_for_actor _ room_rises (λ _.
+    rises_then (x.name_from uan) _ (name_rises uan) (λ u.
+    rises_then (x.locator_from ual) _ (locator_rises ual) (λ l.
+    rises_then (lift (make b args)) _ (rises_lift (make b args)) (λ fs.
+    rises_then c.take_number (x.add_creation b u l fs) number_rises (λ n. record { at = λ s. same s s refl })))))
+
+create_by_rises : (make : Option Make) (b : Option ℕ) (args : List Value) (r : Reads) → Rises (x.create_by make b args r)
+create_by_rises None b args r = rises_pure _
+create_by_rises (Some make) None args r = rises_pure _
+create_by_rises (Some make) (Some b) args r = create_rises make b args r
+
+create_at_by_rises : (make : Option Make) (b : Option ℕ) (args : List Value) (uan : Value) (ual : Option Value) → Rises (x.create_at_by make b args uan ual)
+create_at_by_rises None b args uan ual = rises_pure _
+create_at_by_rises (Some make) None args uan ual = rises_pure _
+create_at_by_rises (Some make) (Some b) args uan ual = create_at_rises make b args uan ual
+
+new_rises : (name : List ℕ) (args : List Mean) (place : Option Where) → EachOf P args → IfAny (OfWhere P) place → (r : Reads) → Rises (x.new name args place r)
+new_rises name args None f g r = rises_then (x.all args r []) _ (all_rise args f r []) (λ vs. create_by_rises r.make _ vs r)
+new_rises name args (Some w) f g r =
+    rises_then (x.all args r []) _ (all_rise args f r []) (λ vs.
+    rises_then (w.0 r) _ (g.0 r) (λ uan.
+    rises_then (x.perhaps w.1 r) _ (perhaps_rises w.1 g.1 r) (λ ual. create_at_by_rises r.make _ vs uan ual)))
+
+expr_rises : (y : Expr-F Mean Behind Where Part) → OfExpr P y → P (expr_step y)
+expr_rises (Expr-F.Number n at) p r = rises_pure _
+expr_rises (Expr-F.Str text at) p r = rises_lift _
+expr_rises (Expr-F.Bool b at) p r = rises_pure _
+expr_rises (Expr-F.Null at) p r = rises_pure _
+expr_rises (Expr-F.Me at) p r = rises_pure _
+expr_rises (Expr-F.Name name) p r = record { at = λ s. same s s refl }
+expr_rises (Expr-F.Own at name) p r = record { at = λ s. same s s refl }
+expr_rises (Expr-F.Paren at e) p r = p r
+expr_rises (Expr-F.Neg at e) p r = rises_then (e r) _ (p r) (λ v. rises_pure _)
+expr_rises (Expr-F.Not at e) p r = rises_then (e r) _ (p r) (λ v. rises_pure _)
+expr_rises (Expr-F.Level first rest) p r = rises_then (first r) (λ v. x.level v rest r) (p.0 r) (λ v. level_rises rest p.1 v r)
+expr_rises (Expr-F.Suffixed first rest) p r = rises_then (first r) (λ v. x.suffixed v rest r) (p.0 r) (λ v. suffixed_rises rest p.1 v r)
+expr_rises (Expr-F.New at behavior args place) p r = new_rises behavior.text args place p.0 p.1 r
+expr_rises (Expr-F.Make at sort size) p r = rises_then (size r) _ (p r) (λ v. rises_lift _)
+expr_rises (Expr-F.ListOf at sort items) p r = rises_then (x.all items r []) _ (all_rise items p r []) (λ vs. rises_lift _)
+expr_rises (Expr-F.ByName at cast behavior text) p r = rises_then (text r) _ (p r) (λ v. rises_then (x.name_from v) _ (name_rises v) (λ u. rises_pure _))
+
+eval_rises : (e : Expr) → P (eval e)
+eval_rises = of_expr P expr_rises
+
+evals_rise : (es : List Expr) → EachOf P (x.evals es)
+evals_rise [] = tt
+evals_rise (e ∷ es) = (eval_rises e, evals_rise es)
+
+-- ---- messages
+
+aimed_rises : (a : Aim) (r : Reads) → Rises (m.aimed a r)
+aimed_rises aim.Own r = rises_pure _
+aimed_rises (aim.Output at) r = rises_pure _
+aimed_rises (aim.Actor e) r = rises_then (eval e r) _ (eval_rises e r) (λ v. rises_pure _)
+
+piece_by_rises : (o : Option ℕ) (e : Expr) (r : Reads) → Rises (m.piece_by o e r)
+piece_by_rises None e r = rises_then (eval e r) _ (eval_rises e r) (λ v. rises_pure _)
+piece_by_rises (Some n) e r = rises_pure _
+
+piece_rises : (a : Arg) (r : Reads) (before : Option ℕ) → Rises (m.piece_of a r before)
+piece_rises (arg.Token at) r before = rises_pure _
+piece_rises (arg.Expr e) r before = record { at = λ s. (piece_by_rises (m.token_of e s) e r).at s }
+
+pieces_rise : (args : List Arg) (r : Reads) (before : Option ℕ) (done : List Piece) → Rises (m.pieces args r before done)
+pieces_rise [] r before done = rises_pure done
+pieces_rise (a ∷ more) r before done = rises_then (m.piece_of a r before) _ (piece_rises a r before) (λ p. pieces_rise more r before (done ++ p ∷ []))
+
+delays_rise : (ps : List Property) (last : Option Value) (r : Reads) → Rises (m.delays ps last r)
+delays_rise [] last r = rises_pure last
+delays_rise (property.Delay at time ∷ more) last r = rises_then (eval time r) _ (eval_rises time r) (λ v. delays_rise more (Some v) r)
+delays_rise (property.WaitFor at names ∷ more) last r = delays_rise more last r
+
+place_rises : Rises c.next_place
+place_rises = record { at = λ s. when (λ (n : ℕ). λ t. Rise s t) (nat_lt s.places 4096) _ _ (λ e. same s (record s { places = s.places + 1 }) refl) (λ e. tt) }
+
+owed_place_rises : (within : List Inside) (r : Reads) → Rises (m.owed_place within r)
+owed_place_rises [] r = rises_pure _
+owed_place_rises (i ∷ is) r = rises_then c.next_place _ place_rises (λ n. rises_pure _)
+
+owed_rises : (last : End) (r : Reads) (n : ℕ) → Rises (m.owed last r n)
+owed_rises end.Nobody r n = rises_pure _
+owed_rises end.Token r n = rises_pure _
+owed_rises end.Place r n = owed_place_rises r.within r
+owed_rises end.Caller r n = rises_pure _
+
+addressed_rises : (d : Send) (r : Reads) (before : Option ℕ) (last : End) (to : Option Target) (args : List Piece) (delay : Option ℕ) → Rises (m.addressed d r before last to args delay)
+addressed_rises d r before last None args delay = rises_trap ℕ _
+addressed_rises d r before last (Some to) args None = rises_trap ℕ _
+addressed_rises d r before last (Some to) args (Some delay) =
+    rises_then m.count_message _ (record { at = λ s. (counted_rises (length s.messages)).at s }) (λ n.
+    rises_then (m.owed last r n) (m.sent d r before to args delay n) (owed_rises last r n) (λ owes. record { at = λ s. same s s refl }))
+
+message_rises : (d : Send) (r : Reads) (before : Option ℕ) (last : End) → Rises (m.message d r before last)
+unfolding m.message
+message_rises d r before last =
+    rises_then (m.aimed d.aim r) _ (aimed_rises d.aim r) (λ to.
+    rises_then (m.pieces d.args r before []) _ (pieces_rise d.args r before []) (λ args.
+    rises_then (m.delays d.properties None r) _ (delays_rise d.properties None r) (λ delay.
+    addressed_rises d r before last (m.target_of to) args (m.delay_of delay))))
+
+-- ---- statements
+
+abbrev G : StageRun → Type 0
+G g = (r : Reads) (before : Option ℕ) (last : End) → Rises (g r before last)
+
+abbrev T : Run → Type 0
+T f = (r : Reads) → Rises (f r)
+
+scoped_rises : {A : Type 0} (n : Eval A) → Rises n → Rises (scoped n)
+scoped_rises {A} n f = record { at = λ s. then_after (λ (a : A). λ t. Rise s t) (λ (a : A). λ t. Rise s t) (n s) (λ a t. Ok (a, c.leave (length s.locals) t)) (f.at s) (λ a t p. p) }
+
+first_value_rises : (o : Option Expr) (v : Value) (r : Reads) → Rises (t.first_value o v r)
+first_value_rises None v r = rises_pure v
+first_value_rises (Some e) v r = eval_rises e r
+
+declared_rises : (d : Declare) (r : Reads) → Rises (t.declared d r)
+declared_rises d r = rises_then (t.first_value d.init _ r) _ (first_value_rises d.init _ r) (λ v. record { at = λ s. same s s refl })
+
+set_field_rises : (o : Option ℕ) (is : List ℤ) (v : Value) → Rises (c.set_field o is v)
+set_field_rises None is v = record { at = λ s. same s s refl }
+set_field_rises (Some i) is v = record { at = λ s. at s (w.assigned (w.item_at s.fields i) is v) }
+  where
+    at : (s : State) (o : Checked Value) → After (λ (u : Unit {0}). λ t. Rise s t) (and_then o (λ w. Ok (tt, record s { fields = slice_set s.fields i w })))
+    at s (Ok w) = same s s refl
+    at s (Err k) = tt
+
+set_local_rises : (i : ℕ) (is : List ℤ) (v : Value) → Rises (c.set_local i is v)
+set_local_rises i is v = record { at = λ s. at s (c.assigned_local (slice_get s.locals i) s.locals i is v) }
+  where
+    at : (s : State) (o : Checked (List Local)) → After (λ (u : Unit {0}). λ t. Rise s t) (and_then o (λ ls. Ok (tt, record s { locals = ls })))
+    at s (Ok ls) = same s s refl
+    at s (Err k) = tt
+
+set_found_rises : (o : Option ℕ) (name : List ℕ) (r : Reads) (is : List ℤ) (v : Value) → Rises (c.set_found o name r is v)
+set_found_rises None name r is v = set_field_rises _ is v
+set_found_rises (Some i) name r is v = set_local_rises i is v
+
+write_rises : (own : Bool) (name : List ℕ) (r : Reads) (is : List ℤ) (v : Value) → Rises (c.write own name r is v)
+write_rises true name r is v = record { at = λ s. (set_field_rises (c.field_named name r) is v).at s }
+write_rises false name r is v = record { at = λ s. (set_found_rises (c.local_named name s.locals) name r is v).at s }
+
+assigned_rises : (a : Assign) (r : Reads) → Rises (t.assigned a r)
+assigned_rises a r = rises_then (x.all (x.evals a.indexes) r []) _ (all_rise (x.evals a.indexes) (evals_rise a.indexes) r []) (λ is. rises_then (eval a.value r) _ (eval_rises a.value r) (λ v. write_rises a.own _ r _ v))
+
+after_rises : (f : Flow) (n : Eval Flow) → Rises n → Rises (t.after f n)
+after_rises Next n p = p
+after_rises (Returned v) n p = rises_pure _
+after_rises Passed n p = rises_pure _
+
+sequence_rises : (fs : List Run) → EachOf T fs → (r : Reads) → Rises (t.sequence fs r)
+sequence_rises [] p r = rises_pure _
+sequence_rises (f ∷ fs) p r = rises_then (f r) _ (p.0 r) (λ g. after_rises g (t.sequence fs r) (sequence_rises fs p.1 r))
+
+blocked_rises : (fs : List Run) → EachOf T fs → T (t.blocked fs)
+blocked_rises fs p r = scoped_rises (t.sequence fs r) (sequence_rises fs p r)
+
+truth_rises : (e : Expr) (r : Reads) → Rises (t.truth e r)
+truth_rises e r = rises_then (eval e r) _ (eval_rises e r) (λ v. rises_pure _)
+
+turn_rises : Rises c.begin_turn
+turn_rises = record { at = λ s. when (λ (u : Unit {0}). λ t. Rise s t) (nat_lt s.turns 100000) _ _ (λ e. let low : s.turns < 100000 = ltb-true s.turns 100000 e in (omega arith, λ l. omega arith)) (λ e. tt) }
+
+looped_rises : (n : ℕ) (test : Eval Bool) (body : Eval Flow) → Rises test → Rises body → Rises (t.looped n test body)
+unfolding t.looped
+looped_rises zero test body f g = rises_trap Flow _
+looped_rises (suc n) test body f g =
+    rises_then test _ f (λ b. rises_if b _ _ (rises_then c.begin_turn _ turn_rises (λ u. rises_then body _ g (λ w. after_rises w (t.looped n test body) (looped_rises n test body f g)))) (rises_pure Next))
+
+begun_rises : (i : ForInit) (r : Reads) → Rises (t.begun i r)
+begun_rises init.Nothing r = rises_pure tt
+begun_rises (init.Declare d) r = declared_rises d r
+begun_rises (init.Assign a) r = assigned_rises a r
+
+goes_on_rises : (o : Option Expr) (r : Reads) → Rises (t.goes_on o r)
+goes_on_rises None r = rises_pure true
+goes_on_rises (Some e) r = truth_rises e r
+
+stepped_rises : (o : Option Assign) (r : Reads) → Rises (t.stepped o r)
+stepped_rises None r = rises_pure tt
+stepped_rises (Some a) r = assigned_rises a r
+
+round_rises : (body : Eval Flow) (next : Eval (Unit {0})) → Rises body → Rises next → Rises (t.round body next)
+round_rises body next f g = rises_then (scoped body) _ (scoped_rises body f) (λ w. after_rises w (next >> pure Next) (rises_then next _ g (λ _. rises_pure Next)))
+
+for_all_rises : (first : Eval (Unit {0})) (test : Eval Bool) (next : Eval (Unit {0})) (body : Eval Flow) → Rises first → Rises test → Rises next → Rises body → Rises (t.for_all first test next body)
+unfolding t.for_all t.for_parts
+for_all_rises first test next body a b d e = scoped_rises _ (rises_then first _ a (λ _. looped_rises t.tests test (t.round body next) b (round_rises body next e d)))
+
+chain_rises : (gs : List StageRun) → EachOf G gs → (r : Reads) (before : Option ℕ) (last : End) → Rises (t.chain gs r before last)
+chain_rises [] p r before last = rises_pure before
+chain_rises (g ∷ gs) p r before last = rises_then (g r before (t.end_of gs last)) _ (p.0 r before (t.end_of gs last)) (λ n. chain_rises gs p.1 r (Some n) last)
+
+passed_rises : (within : List Inside) (gs : List StageRun) → EachOf G gs → (r : Reads) → Rises (t.passed_on within gs r)
+passed_rises [] gs p r = rises_then (t.chain gs r None end.Caller) _ (chain_rises gs p r None end.Caller) (λ _. rises_pure Passed)
+passed_rises (i ∷ is) gs p r = rises_then (t.chain gs r None end.Place) _ (chain_rises gs p r None end.Place) (λ _. rises_pure Next)
+
+ended_rises : (passed : Option ℕ) (gs : List StageRun) → EachOf G gs → (r : Reads) → Rises (t.ended passed gs r)
+ended_rises None gs p r = rises_then (t.chain gs r None (t.plain_end r.within)) _ (chain_rises gs p r None (t.plain_end r.within)) (λ _. rises_pure Next)
+ended_rises (Some at) gs p r = passed_rises r.within gs p r
+
+declare_reply_rises : (name : List ℕ) (o : Option ℕ) → Rises (t.declare_reply name o)
+declare_reply_rises name None = rises_pure tt
+declare_reply_rises name (Some n) = record { at = λ s. same s s refl }
+
+named_rises : (name : List ℕ) (gs : List StageRun) → EachOf G gs → (r : Reads) → Rises (t.named name gs r)
+named_rises name gs p r = rises_then _ _ (rises_then (t.chain gs r None end.Token) (t.declare_reply name) (chain_rises gs p r None end.Token) (declare_reply_rises name)) (λ _. rises_pure Next)
+
+joined_rises : (void : Bool) (block : Run) → T block → (r : Reads) (before : Option ℕ) (n : ℕ) (owes : Reply) → Rises (t.joined void block r before n owes)
+joined_rises void block p r before n owes = record {
+  at = λ s.
+      then_after (λ (f : Flow). λ b. Rise s b) (λ (k : ℕ). λ b. Rise s b) ((t.opened n void owes >> block (t.within_join n before r)) s) (λ f b. Ok (n, t.closed (length s.joins) n void owes s.places b))
+      ((rises_then (t.opened n void owes) _ (record { at = λ s. same s s refl }) (λ _. p (t.within_join n before r))).at s) (λ f b q. q);
+}
+
+join_rises : (void : State → Bool) (block : Run) → T block → (r : Reads) → (before : Option ℕ) (last : End) → Rises (t.join void block r before last)
+join_rises void block p r before last = record {
+  at = λ s.
+      (rises_then t.count_join _ (record { at = λ s. (counted_rises (length s.joins)).at s }) (λ n.
+      rises_then (m.owed last r n) _ (owed_rises last r n) (λ owes. joined_rises (void s) block p r before n owes))).at s;
+}
+
+senses_rise : (list : List Sense) → EachOf (OfSense G T) list → EachOf T (map doing list)
+senses_rise [] p = tt
+senses_rise (x ∷ xs) p = (p.0, senses_rise xs p.1)
+
+stage_run_rises : (y : Stage-F StageSense Sense ChainSense) → OfStage G T y → G (stage_run y)
+stage_run_rises (Stage-F.Message d) p r before last = message_rises d r before last
+stage_run_rises (Stage-F.Join at body) p r before last = join_rises _ (t.blocked (map doing body)) (blocked_rises (map doing body) (senses_rise body p)) r before last
+
+stmt_run_rises : (y : Stmt-F StageSense Sense ChainSense) → OfStmt G T y → T (stmt_run y)
+stmt_run_rises (Stmt-F.Empty at) p r = rises_pure _
+stmt_run_rises (Stmt-F.Block at list) p r = blocked_rises (map doing list) (senses_rise list p) r
+stmt_run_rises (Stmt-F.Declare d) p r = rises_then (t.declared d r) _ (declared_rises d r) (λ _. rises_pure Next)
+stmt_run_rises (Stmt-F.Assign a) p r = rises_then (t.assigned a r) _ (assigned_rises a r) (λ _. rises_pure Next)
+stmt_run_rises (Stmt-F.If at test first None) p r = rises_then (t.truth test r) _ (truth_rises test r) (λ b. rises_if b _ _ (scoped_rises (first.1 r) (p.0 r)) (rises_pure Next))
+stmt_run_rises (Stmt-F.If at test first (Some second)) p r = rises_then (t.truth test r) _ (truth_rises test r) (λ b. rises_if b _ _ (scoped_rises (first.1 r) (p.0 r)) (scoped_rises (second.1 r) (p.1 r)))
+stmt_run_rises (Stmt-F.While at test body) p r = looped_rises t.tests (t.truth test r) (scoped (body.1 r)) (truth_rises test r) (scoped_rises (body.1 r) (p r))
+stmt_run_rises (Stmt-F.For at first test next body) p r = for_all_rises (t.begun first r) (t.goes_on test r) (t.stepped next r) (body.1 r) (begun_rises first r) (goes_on_rises test r) (stepped_rises next r) (p r)
+stmt_run_rises (Stmt-F.Return at value) p r = rises_then (t.first_value value _ r) _ (first_value_rises value _ r) (λ v. rises_pure _)
+stmt_run_rises (Stmt-F.Token at name ch) p r = named_rises name.text ch.1 p r
+stmt_run_rises (Stmt-F.Chain ch passed) p r = ended_rises passed ch.1 p r
+
+exec_rises : (y : Stmt) → T (exec y)
+exec_rises = of_stmt G T stage_run_rises stmt_run_rises
+
+block_rises : (body : List Stmt) → T (t.block body)
+block_rises body = blocked_rises (map exec body) (of_block G T stage_run_rises stmt_run_rises body)
+
+-- ---- the bound never shows
+
+turn_taken : (s : State) → After (λ (u : Unit {0}). λ t. (t.turns ≡ s.turns + 1) × (t.turns ≤ 100000)) (c.begin_turn s)
+turn_taken s = when (λ (u : Unit {0}). λ t. (t.turns ≡ s.turns + 1) × (t.turns ≤ 100000)) (nat_lt s.turns 100000) _ _ (λ e. let low : s.turns < 100000 = ltb-true s.turns 100000 e in (refl, omega arith)) (λ e. tt)
+
+same_then : {A B : Type 0} (x : Checked (A × State)) (f g : A × State → Checked (B × State)) → After (λ a t. f (a, t) ≡ g (a, t)) x → and_then x f ≡ and_then x g
+same_then (Ok x) f g p = p
+same_then (Err k) f g p = refl
+
+after_same : (f : Flow) (a b : Eval Flow) (s : State) → a s ≡ b s → t.after f a s ≡ t.after f b s
+after_same Next a b s e = e
+after_same (Returned v) a b s e = refl
+after_same Passed a b s e = refl
+
+module _ (test : Eval Bool) (body : Eval Flow) (f : Rises test) (g : Rises body) where
+  -- one test more, where the loop does the same behind it
+  step_same : (k n : ℕ) (s : State) → ((u : State) → s.turns + 1 ≤ u.turns → u.turns ≤ 100000 → t.looped n test body u ≡ t.looped k test body u) → t.looped (suc n) test body s ≡ t.looped (suc k) test body s
+  unfolding t.looped
+  step_same k n s again = same_then (test s) _ _ (after_more (λ (b : Bool). λ u. Rise s u) _ (test s) by_test (f.at s))
+    where
+      rest : ℕ → Eval Flow
+      rest n = body >>= (λ w. t.after w (t.looped n test body))
+
+      step : ℕ → Bool → Eval Flow
+      step n b = if b then (c.begin_turn >> rest n) else pure Next
+
+      by_test : (b : Bool) (u : State) → Rise s u → step n b u ≡ step k b u
+      by_test false u p = refl
+      by_test true u p =
+          same_then (c.begin_turn u) _ _ (after_more (λ (x : Unit {0}). λ v. (v.turns ≡ u.turns + 1) × (v.turns ≤ 100000)) _ (c.begin_turn u) (λ x v q.
+          same_then (body v) _ _ (after_more (λ (w : Flow). λ z. Rise v z) _ (body v) (λ w z o. after_same w (t.looped n test body) (t.looped k test body) z (again z (omega (arith, p.0, q.0, o.0)) (o.1 q.1))) (g.at v))) (turn_taken u))
+
+  -- with k tests left, which are more than the turns that are left
+  unbound : (k more : ℕ) (s : State) → s.turns ≤ 100000 → 100001 ≤ s.turns + k → t.looped (k + more) test body s ≡ t.looped k test body s
+  unbound zero more s low many = absurd (omega arith)
+  unbound (suc k) more s low many =
+      let e : suc k + more ≡ suc (k + more) = omega arith in
+      ap (λ n. t.looped n test body s) e ∙ step_same k (k + more) s (λ u a b. unbound k more u b (omega (arith, a, many)))
+
+pub loops_stop : LoopsStopThemselves
+loops_stop = record {
+  while_loops = λ test body r s more low. unbound (t.truth test r) (scoped (exec body r)) (truth_rises test r) (scoped_rises (exec body r) (exec_rises body r)) t.tests more s low (omega arith);
+  for_loops = λ test next body r s more low. unbound (t.goes_on test r) (t.round (exec body r) (t.stepped next r)) (goes_on_rises test r) (round_rises (exec body r) (t.stepped next r) (exec_rises body r) (stepped_rises next r)) t.tests more s low (omega arith);
+  turns = λ body r s u f low e. (after_is (λ (f : Flow). λ u. Rise s u) (t.block body r s) f u ((block_rises body r).at s) e).1 low;
+}
