@@ -15,12 +15,9 @@ use Rattle.sal_ast.specs.declared.statement.Stage.TheViews.{roll-Stage, roll-Stm
 use Rattle.sal_ast.specs.declared.statement.Stage.TheOpen.{Stage-F, Stmt-F, Chain-F}
 use Rattle.sal_ast.specs.declared.statement.Stage.TheFolds.{map-Stage, map-Stmt, map-Chain, fold-roll-Stage, fold-roll-Stmt, fold-roll-Chain, ind-Stmt}
 use Rattle.sal_ast.proofs.Closing.{Known}
+use Rattle.sal_handler.specs.Fair.{EachOf}
 use Rattle.sal_handler.specs.Expressions.{Mean, Behind, Where, Part, expr_step, suffix_step, at_step, operand_step, eval, suffix, located, operand}
-use Rattle.sal_handler.specs.Statements.{StageSense, Sense, ChainSense, StageRun, Run, stage_step, stmt_step, chain_step, stage_run, stmt_run, stage_sense, sense, chain_sense, exec, stage, doing}
-
-abbrev pub EachOf : {X : Type 0} → (X → Type 0) → List X → Type 0
-EachOf P [] = Unit {0}
-EachOf P (x ∷ xs) = P x × EachOf P xs
+use Rattle.sal_handler.specs.Statements.{StageSense, Sense, ChainSense, stage_step, stmt_step, chain_step, stage_sense, sense, chain_sense}
 
 abbrev pub IfAny : {X : Type 0} → (X → Type 0) → Option X → Type 0
 IfAny P None = Unit {0}
@@ -153,47 +150,38 @@ module _ (P : Mean → Type 0) where
     pub of_expr : (e : Expr) → P (eval e)
     of_expr = ind-Expr PE PS PA PO (λ x y is. subst (λ z. PE (roll-Expr z)) is (expr_layer y)) (λ x y is. subst (λ z. PS (roll-Suffix z)) is (suffix_layer y)) (λ x y is. subst (λ z. PA (roll-At z)) is (at_layer y)) (λ x y is. subst (λ z. PO (roll-Operand z)) is (operand_layer y))
 
-module _ (G : StageRun → Type 0) (T : Run → Type 0) where
-  abbrev pub OfStageSense : StageSense → Type 0
-  OfStageSense x = G x.1
-
-  abbrev pub OfSense : Sense → Type 0
-  OfSense x = T x.1
-
-  abbrev pub OfChainSense : ChainSense → Type 0
-  OfChainSense c = EachOf G c.1
-
+module _ (G : StageSense → Type 0) (T : Sense → Type 0) (C : ChainSense → Type 0) where
   abbrev pub OfStage : Stage-F StageSense Sense ChainSense → Type 0
   OfStage (Stage-F.Message m) = Unit {0}
-  OfStage (Stage-F.Join at body) = EachOf OfSense body
+  OfStage (Stage-F.Join at body) = EachOf T body
 
   abbrev pub OfStmt : Stmt-F StageSense Sense ChainSense → Type 0
   OfStmt (Stmt-F.Empty at) = Unit {0}
-  OfStmt (Stmt-F.Block at list) = EachOf OfSense list
+  OfStmt (Stmt-F.Block at list) = EachOf T list
   OfStmt (Stmt-F.Declare d) = Unit {0}
   OfStmt (Stmt-F.Assign a) = Unit {0}
-  OfStmt (Stmt-F.If at test first second) = T first.1 × IfAny OfSense second
-  OfStmt (Stmt-F.While at test body) = T body.1
-  OfStmt (Stmt-F.For at first test next body) = T body.1
+  OfStmt (Stmt-F.If at test first second) = T first × IfAny T second
+  OfStmt (Stmt-F.While at test body) = T body
+  OfStmt (Stmt-F.For at first test next body) = T body
   OfStmt (Stmt-F.Return at value) = Unit {0}
-  OfStmt (Stmt-F.Token at name c) = EachOf G c.1
-  OfStmt (Stmt-F.Chain c passed) = EachOf G c.1
+  OfStmt (Stmt-F.Token at name c) = C c
+  OfStmt (Stmt-F.Chain c passed) = C c
 
-  module _ (stages : (x : Stage-F StageSense Sense ChainSense) → OfStage x → G (stage_run x)) (stmts : (x : Stmt-F StageSense Sense ChainSense) → OfStmt x → T (stmt_run x)) where
+  module _ (stages : (x : Stage-F StageSense Sense ChainSense) → OfStage x → G (stage_step x)) (stmts : (x : Stmt-F StageSense Sense ChainSense) → OfStmt x → T (stmt_step x)) (chains : (x : Chain-F StageSense Sense ChainSense) → EachOf G x.stages → C (chain_step x)) where
     abbrev PG : Stage → Type 0
-    PG x = G (stage x)
+    PG x = G (stage_sense x)
 
     abbrev PT : Stmt → Type 0
-    PT x = T (exec x)
+    PT x = T (sense x)
 
     abbrev PC : Chain → Type 0
-    PC x = OfChainSense (chain_sense x)
+    PC x = C (chain_sense x)
 
-    each_stmt : (list : List (Known Stmt PT)) → EachOf OfSense (map sense (map (λ z. z.0) list))
+    each_stmt : (list : List (Known Stmt PT)) → EachOf T (map sense (map (λ z. z.0) list))
     each_stmt [] = tt
     each_stmt (x ∷ xs) = (x.1, each_stmt xs)
 
-    each_stage : (list : List (Known Stage PG)) → EachOf G (map doing (map stage_sense (map (λ z. z.0) list)))
+    each_stage : (list : List (Known Stage PG)) → EachOf G (map stage_sense (map (λ z. z.0) list))
     each_stage [] = tt
     each_stage (x ∷ xs) = (x.1, each_stage xs)
 
@@ -221,6 +209,9 @@ module _ (G : StageRun → Type 0) (T : Run → Type 0) where
     abbrev stmt_senses : Stmt-F Stage Stmt Chain → Stmt-F StageSense Sense ChainSense
     stmt_senses = map-Stmt Stage Stmt Chain StageSense Sense ChainSense stage_sense sense chain_sense
 
+    abbrev chain_senses : Chain-F Stage Stmt Chain → Chain-F StageSense Sense ChainSense
+    chain_senses = map-Chain Stage Stmt Chain StageSense Sense ChainSense stage_sense sense chain_sense
+
     stage_parts : (y : LayerG) → OfStage (stage_senses (stage_trees y))
     stage_parts (Stage-F.Message m) = tt
     stage_parts (Stage-F.Join at body) = each_stmt body
@@ -240,19 +231,15 @@ module _ (G : StageRun → Type 0) (T : Run → Type 0) where
 
     stage_layer : (y : LayerG) → PG (roll-Stage (stage_trees y))
     unfolding stage_sense sense chain_sense
-    stage_layer y = subst OfStageSense (sym (fold-roll-Stage StageSense Sense ChainSense stage_step stmt_step chain_step (stage_trees y))) (stages (stage_senses (stage_trees y)) (stage_parts y))
+    stage_layer y = subst G (sym (fold-roll-Stage StageSense Sense ChainSense stage_step stmt_step chain_step (stage_trees y))) (stages (stage_senses (stage_trees y)) (stage_parts y))
 
     stmt_layer : (y : LayerT) → PT (roll-Stmt (stmt_trees y))
     unfolding stage_sense sense chain_sense
-    stmt_layer y = subst OfSense (sym (fold-roll-Stmt StageSense Sense ChainSense stage_step stmt_step chain_step (stmt_trees y))) (stmts (stmt_senses (stmt_trees y)) (stmt_parts y))
+    stmt_layer y = subst T (sym (fold-roll-Stmt StageSense Sense ChainSense stage_step stmt_step chain_step (stmt_trees y))) (stmts (stmt_senses (stmt_trees y)) (stmt_parts y))
 
     chain_layer : (y : LayerC) → PC (roll-Chain (chain_trees y))
     unfolding stage_sense sense chain_sense
-    chain_layer y = subst OfChainSense (sym (fold-roll-Chain StageSense Sense ChainSense stage_step stmt_step chain_step (chain_trees y))) (each_stage y.stages)
+    chain_layer y = subst C (sym (fold-roll-Chain StageSense Sense ChainSense stage_step stmt_step chain_step (chain_trees y))) (chains (chain_senses (chain_trees y)) (each_stage y.stages))
 
-    pub of_stmt : (x : Stmt) → T (exec x)
+    pub of_stmt : (x : Stmt) → T (sense x)
     of_stmt = ind-Stmt PG PT PC (λ x y is. subst (λ z. PG (roll-Stage z)) is (stage_layer y)) (λ x y is. subst (λ z. PT (roll-Stmt z)) is (stmt_layer y)) (λ x y is. subst (λ z. PC (roll-Chain z)) is (chain_layer y))
-
-    pub of_block : (list : List Stmt) → EachOf T (map exec list)
-    of_block [] = tt
-    of_block (x ∷ xs) = (of_stmt x, of_block xs)

@@ -42,7 +42,8 @@ use Rattle.sal_handler.specs.Statements as t
 use Rattle.sal_handler.specs.Statements.{StageSense, Sense, ChainSense, StageRun, Run, stage_run, stmt_run, exec, doing}
 use Rattle.sal_handler.specs.Loops.{LoopsStopThemselves}
 use Rattle.sal_handler.proofs.After.{After, then_after, after_more, lift_after, when, after_is}
-use Rattle.sal_handler.proofs.Induction.{EachOf, IfAny, OfBehind, OfWhere, OfPart, OfExpr, of_expr, OfSense, OfStage, OfStmt, of_stmt, of_block}
+use Rattle.sal_handler.specs.Fair.{EachOf}
+use Rattle.sal_handler.proofs.Induction.{IfAny, OfBehind, OfWhere, OfPart, OfExpr, of_expr, OfStage, OfStmt, of_stmt}
 
 abbrev Rise : State → State → Type 0
 Rise s t = (s.turns ≤ t.turns) × (s.turns ≤ 100000 → t.turns ≤ 100000)
@@ -346,15 +347,28 @@ join_rises void block p r before last = record {
       rises_then (m.owed last r n) _ (owed_rises last r n) (λ owes. joined_rises (void s) block p r before n owes))).at s;
 }
 
-senses_rise : (list : List Sense) → EachOf (OfSense G T) list → EachOf T (map doing list)
+abbrev OfG : StageSense → Type 0
+OfG x = G x.1
+
+abbrev OfT : Sense → Type 0
+OfT x = T x.1
+
+abbrev OfC : ChainSense → Type 0
+OfC x = EachOf G x.1
+
+senses_rise : (list : List Sense) → EachOf OfT list → EachOf T (map doing list)
 senses_rise [] p = tt
 senses_rise (x ∷ xs) p = (p.0, senses_rise xs p.1)
 
-stage_run_rises : (y : Stage-F StageSense Sense ChainSense) → OfStage G T y → G (stage_run y)
+stages_rise : (list : List StageSense) → EachOf OfG list → EachOf G (map doing list)
+stages_rise [] p = tt
+stages_rise (x ∷ xs) p = (p.0, stages_rise xs p.1)
+
+stage_run_rises : (y : Stage-F StageSense Sense ChainSense) → OfStage OfG OfT OfC y → G (stage_run y)
 stage_run_rises (Stage-F.Message d) p r before last = message_rises d r before last
 stage_run_rises (Stage-F.Join at body) p r before last = join_rises _ (t.blocked (map doing body)) (blocked_rises (map doing body) (senses_rise body p)) r before last
 
-stmt_run_rises : (y : Stmt-F StageSense Sense ChainSense) → OfStmt G T y → T (stmt_run y)
+stmt_run_rises : (y : Stmt-F StageSense Sense ChainSense) → OfStmt OfG OfT OfC y → T (stmt_run y)
 stmt_run_rises (Stmt-F.Empty at) p r = rises_pure _
 stmt_run_rises (Stmt-F.Block at list) p r = blocked_rises (map doing list) (senses_rise list p) r
 stmt_run_rises (Stmt-F.Declare d) p r = rises_then (t.declared d r) _ (declared_rises d r) (λ _. rises_pure Next)
@@ -368,10 +382,14 @@ stmt_run_rises (Stmt-F.Token at name ch) p r = named_rises name.text ch.1 p r
 stmt_run_rises (Stmt-F.Chain ch passed) p r = ended_rises passed ch.1 p r
 
 exec_rises : (y : Stmt) → T (exec y)
-exec_rises = of_stmt G T stage_run_rises stmt_run_rises
+exec_rises = of_stmt OfG OfT OfC stage_run_rises stmt_run_rises (λ x p. stages_rise x.stages p)
+
+execs_rise : (body : List Stmt) → EachOf T (map exec body)
+execs_rise [] = tt
+execs_rise (x ∷ xs) = (exec_rises x, execs_rise xs)
 
 block_rises : (body : List Stmt) → T (t.block body)
-block_rises body = blocked_rises (map exec body) (of_block G T stage_run_rises stmt_run_rises body)
+block_rises body = blocked_rises (map exec body) (execs_rise body)
 
 -- ---- the bound never shows
 

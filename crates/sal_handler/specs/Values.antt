@@ -189,5 +189,5 @@ assigned old (index ∷ rest) new = and_then (put old (index ∷ rest) new) made
 
 -- `new T[n]`
 abbrev pub array_of : TypeName → ℤ → Checked Value
-array_of t (pos n) = if nat_lt 4096 n then Err TooLarge else Ok (Array (replicate n (default_item t)))
+array_of t (pos n) = if nat_lt 4096 n then Err TooLarge else made (Array (replicate n (default_item t)))
 array_of t (negsuc n) = Err NegativeLength

@@ -1,0 +1,128 @@
+-- What the effects of a handler keep, whatever the program: its actor's next numbers, each once; what its
+-- messages wait for; and to whom replies are owed.
+use Rattle.std.specs.Prelude.{◌≡◌, ◌≢◌, ℕ, ◌+◌, ◌≤◌, ◌<◌, ◌⊎◌, nat_eq, true, if◌then◌else◌, List, [], ◌∷◌, length}
+use Rattle.std.specs.Str.{bytes_eq}
+use Rattle.sal_value.specs.declared.name.Name.{Name}
+use Rattle.sal_value.specs.declared.value.Value.{Value}
+use Rattle.sal_value.specs.Spelling.{is_legal, name_is_spelled}
+use Rattle.sal_mail.specs.declared.message.Piece.{Piece}
+use Rattle.sal_mail.specs.declared.message.Piece.TheVariants.{Known, Token}
+use Rattle.sal_mail.specs.declared.message.Reply.{Reply}
+use Rattle.sal_mail.specs.declared.message.Reply.TheVariants.{Nobody, Tok, Place, Outside}
+use Rattle.sal_mail.specs.declared.message.Message.{Message}
+use Rattle.sal_mail.specs.declared.message.Join.{Join}
+use Rattle.sal_mail.specs.declared.effects.Actor.{Actor}
+use Rattle.sal_mail.specs.declared.effects.Creation.{Creation}
+use Rattle.sal_mail.specs.declared.effects.Answer.{Answer}
+use Rattle.sal_mail.specs.declared.effects.Answer.TheVariants as answer
+use Rattle.sal_mail.specs.declared.effects.Effects.{Effects}
+use Rattle.sal_mail.specs.Address.{address}
+use Rattle.sal_handler.specs.Calls.{Call}
+use Rattle.sal_handler.specs.Scopes.{fresh_name}
+
+-- it holds of each
+abbrev pub EachOf : {X : Type 0} → (X → Type 0) → List X → Type 0
+EachOf P [] = Unit {0}
+EachOf P (x ∷ xs) = P x × EachOf P xs
+
+abbrev pub total : {X : Type 0} → (X → ℕ) → List X → ℕ
+total f [] = 0
+total f (x ∷ xs) = f x + total f xs
+
+-- ---- numbers
+
+abbrev pub is_number : ℕ → ℕ → ℕ
+is_number k n = if nat_eq k n then 1 else 0
+
+-- how many messages, joins and creations have this number
+abbrev pub taken : ℕ → List Message → List Join → List Creation → ℕ
+taken k messages joins creations = total (λ m. is_number k m.serial) messages + (total (λ j. is_number k j.number) joins + total (λ x. is_number k x.serial) creations)
+
+-- from this number on, below that
+abbrev pub IsWithin : ℕ → ℕ → ℕ → Type 0
+IsWithin from to n = (from ≤ n) × (n < to)
+
+-- ---- messages
+
+abbrev pub Legal : Value → Type 0
+Legal v = is_legal v ≡ true
+
+-- a legal value, or a token of this actor's new numbers
+abbrev pub IsGoodPiece : ℕ → ℕ → Piece → Type 0
+IsGoodPiece from to (Known v) = Legal v
+IsGoodPiece from to (Token n) = IsWithin from to n
+
+-- the token of a new number, or a place of a new join
+abbrev pub IsNew : Name → ℕ → ℕ → Reply → Type 0
+IsNew me from to Nobody = ⊥
+IsNew me from to (Tok owner n) = (owner ≡ me) × IsWithin from to n
+IsNew me from to (Place owner join at) = (owner ≡ me) × IsWithin from to join
+IsNew me from to (Outside n) = ⊥
+
+-- owed to nobody, to a new address, or to whom the handled message owed its reply
+abbrev pub IsOwedWell : Name → Reply → ℕ → ℕ → Reply → Type 0
+IsOwedWell me caller from to r = (r ≡ Nobody) ⊎ ((r ≡ caller) ⊎ IsNew me from to r)
+
+pub record IsGoodMessage (me : Name) (caller : Reply) (from to most : ℕ) (m : Message) : Type 0 where
+  pub maker : m.maker ≡ me
+  pub args : EachOf (IsGoodPiece from to) m.args
+  pub few : length m.args ≤ most
+  pub after : EachOf (IsWithin from to) m.after
+  pub reply : IsOwedWell me caller from to m.reply
+
+-- ---- replies
+
+abbrev pub owes : List ℕ → Reply → ℕ
+owes a r = if bytes_eq a (address r) then 1 else 0
+
+-- how often the new messages and joins owe a reply to this address
+abbrev pub owed : List ℕ → List Message → List Join → ℕ
+owed a messages joins = total (λ m. owes a m.reply) messages + total (λ j. owes a j.reply) joins
+
+-- how often a handler with this answer may have passed its reply on
+abbrev pub passes : Answer → ℕ
+passes answer.Passed = 1
+passes (answer.Value v) = 0
+
+-- ---- actors
+
+-- the new actors take the names in order, from this place on
+abbrev pub AreNamed : List Name → ℕ → List Actor → Type 0
+AreNamed fresh i [] = Unit {0}
+AreNamed fresh i (a ∷ actors) = (a.name ≡ fresh_name fresh i) × AreNamed fresh (i + 1) actors
+
+-- ---- the law
+
+-- the reply is no token and no place of this actor with a number from this one on
+abbrev pub IsOld : Name → ℕ → Reply → Type 0
+IsOld me from Nobody = Unit {0}
+IsOld me from (Tok owner n) = owner ≡ me → n < from
+IsOld me from (Place owner join at) = owner ≡ me → join < from
+IsOld me from (Outside n) = Unit {0}
+
+-- A call with legal values and an old reply. Names have spellings, as all names of configurations do.
+pub record IsSoundCall (c : Call) : Type 0 where
+  pub fields : EachOf Legal c.fields
+  pub args : EachOf Legal c.args
+  pub reply : IsOld c.me c.serial c.reply
+  pub me : name_is_spelled c.me ≡ true
+  pub names : EachOf (λ n. name_is_spelled n ≡ true) c.names
+
+pub record IsFair (most : ℕ) (c : Call) (e : Effects) : Type 0 where
+  -- numbers are taken from the actor's next number on, each once, below its new next number
+  pub rises : c.serial ≤ e.serial
+  pub once : (k : ℕ) → taken k e.messages e.joins e.creations ≤ 1
+  pub low : (k : ℕ) → k < c.serial → taken k e.messages e.joins e.creations ≡ 0
+  pub high : (k : ℕ) → e.serial ≤ k → taken k e.messages e.joins e.creations ≡ 0
+  -- messages are the actor's own and wait only for such numbers; their known values are legal
+  pub messages : EachOf (IsGoodMessage c.me c.reply c.serial e.serial most) e.messages
+  pub joins : EachOf (λ j. IsOwedWell c.me c.reply c.serial e.serial j.reply) e.joins
+  -- each address is owed at most once, and the handled message's only where the reply was passed on
+  pub owed_once : (r : Reply) → r ≢ Nobody → owed (address r) e.messages e.joins ≤ 1
+  pub passed : c.reply ≢ Nobody → owed (address c.reply) e.messages e.joins ≤ passes e.answer
+  -- new actors take the names in order, and all fields are legal
+  pub names : AreNamed c.names 0 e.actors
+  pub actors : EachOf (λ a. EachOf Legal a.fields) e.actors
+  pub creations : EachOf (λ x. EachOf Legal x.fields) e.creations
+  pub fields : EachOf Legal e.fields
+  pub count : length e.fields ≡ length c.fields
