@@ -1,8 +1,11 @@
+pub mod Addresses
 pub mod After
 pub mod Evaluations
 pub mod Executions
+pub mod FairExpressions
 pub mod Induction
 pub mod Legal
 pub mod Listed
 pub mod Sending
+pub mod Sound
 pub mod Turns
