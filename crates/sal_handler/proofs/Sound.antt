@@ -101,10 +101,10 @@ module _ (from most width : ℕ) where
   pub record FairAt {A : Type 0} (r : Reads) (q : A → ℕ) (V : A → State → Type 0) (s : State) (x : Checked (A × State)) : Type 0 where
     pub holds : After (λ a t. Reach r (q a) s t × V a t) x
 
-  moves_same : (r : Reads) (s : State) → Moves r s s
+  pub moves_same : (r : Reads) (s : State) → Moves r s s
   moves_same r s = record { serial = omega arith; joins = ([], sym (append-nil s.joins)); places = λ k i a b c. refl }
 
-  moves_then : (r : Reads) (s t u : State) → Moves r s t → Moves r t u → Moves r s u
+  pub moves_then : (r : Reads) (s t u : State) → Moves r s t → Moves r t u → Moves r s u
   moves_then r s t u m n = record {
     serial = omega (arith, m.serial, n.serial);
     joins = (m.joins.0 ++ n.joins.0, n.joins.1 ∙ ap (λ l. l ++ n.joins.0) m.joins.1 ∙ append_assoc s.joins m.joins.0 n.joins.0);
@@ -136,14 +136,14 @@ module _ (from most width : ℕ) where
 
   -- ---- more numbers
 
-  within_more : (a b n : ℕ) → a ≤ b → IsWithin from a n → IsWithin from b n
+  pub within_more : (a b n : ℕ) → a ≤ b → IsWithin from a n → IsWithin from b n
   within_more a b n le w = (w.0, omega (arith, w.1, le))
 
-  if_more : (a b : ℕ) (o : Option ℕ) → a ≤ b → IfAny (IsWithin from a) o → IfAny (IsWithin from b) o
+  pub if_more : (a b : ℕ) (o : Option ℕ) → a ≤ b → IfAny (IsWithin from a) o → IfAny (IsWithin from b) o
   if_more a b None le w = tt
   if_more a b (Some n) le w = within_more a b n le w
 
-  piece_more : (a b : ℕ) → a ≤ b → (p : Piece) → IsGoodPiece from a p → IsGoodPiece from b p
+  pub piece_more : (a b : ℕ) → a ≤ b → (p : Piece) → IsGoodPiece from a p → IsGoodPiece from b p
   piece_more a b le (Known v) w = w
   piece_more a b le (Token n) w = within_more a b n le w
 
@@ -153,12 +153,12 @@ module _ (from most width : ℕ) where
   new_more me a b le (Place o j i) w = (w.0, within_more a b j le w.1)
   new_more me a b le (Outside n) w = w
 
-  owed_more : (me : Name) (caller : Reply) (a b : ℕ) → a ≤ b → (o : Reply) → IsOwedWell me caller from a o → IsOwedWell me caller from b o
+  pub owed_more : (me : Name) (caller : Reply) (a b : ℕ) → a ≤ b → (o : Reply) → IsOwedWell me caller from a o → IsOwedWell me caller from b o
   owed_more me caller a b le o (inl e) = inl e
   owed_more me caller a b le o (inr (inl e)) = inr (inl e)
   owed_more me caller a b le o (inr (inr w)) = inr (inr (new_more me a b le o w))
 
-  message_more : (me : Name) (caller : Reply) (a b : ℕ) → a ≤ b → (m : Message) → IsGoodMessage me caller from a most m → IsGoodMessage me caller from b most m
+  pub message_more : (me : Name) (caller : Reply) (a b : ℕ) → a ≤ b → (m : Message) → IsGoodMessage me caller from a most m → IsGoodMessage me caller from b most m
   message_more me caller a b le m g = record {
     maker = g.maker;
     args = each_more (IsGoodPiece from a) (IsGoodPiece from b) m.args (piece_more a b le) g.args;
@@ -167,14 +167,14 @@ module _ (from most width : ℕ) where
     reply = owed_more me caller a b le m.reply g.reply;
   }
 
-  held_more : (a b : ℕ) → a ≤ b → (h : Held) → IsGoodHeld from a h → IsGoodHeld from b h
+  pub held_more : (a b : ℕ) → a ≤ b → (h : Held) → IsGoodHeld from a h → IsGoodHeld from b h
   held_more a b le (held.Value v) w = w
   held_more a b le (held.Token n) w = within_more a b n le w
 
-  inside_more : (a b : ℕ) → a ≤ b → (i : Inside) → IsGoodInside from a i → IsGoodInside from b i
+  pub inside_more : (a b : ℕ) → a ≤ b → (i : Inside) → IsGoodInside from a i → IsGoodInside from b i
   inside_more a b le i w = (within_more a b i.join le w.0, if_more a b i.before le w.1)
 
-  next_same : (is : List Inside) (me : Name) (s t : State) → s.places ≤ t.places → ((a : List ℕ) → owed_in a t ≡ owed_in a s) → NextPlaces is me s → NextPlaces is me t
+  pub next_same : (is : List Inside) (me : Name) (s t : State) → s.places ≤ t.places → ((a : List ℕ) → owed_in a t ≡ owed_in a s) → NextPlaces is me s → NextPlaces is me t
   next_same [] me s t le e n = tt
   next_same (i ∷ is) me s t le e n = λ k h. e (address (Place me i.join k)) ∙ n k (omega (arith, h, le))
 

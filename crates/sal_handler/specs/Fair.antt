@@ -1,10 +1,18 @@
 -- What the effects of a handler keep, whatever the program: its actor's next numbers, each once; what its
 -- messages wait for; and to whom replies are owed.
-use Rattle.std.specs.Prelude.{◌≡◌, ◌≢◌, ℕ, ◌+◌, ◌≤◌, ◌<◌, ◌⊎◌, nat_eq, true, if◌then◌else◌, List, [], ◌∷◌, length}
+use Rattle.std.specs.Prelude.{◌≡◌, ◌≢◌, ℕ, ◌+◌, max, map, ◌≤◌, ◌<◌, ◌⊎◌, nat_eq, true, if◌then◌else◌, List, [], ◌∷◌, length, Some, None}
 use Rattle.std.specs.Str.{bytes_eq}
 use Rattle.sal_value.specs.declared.name.Name.{Name}
 use Rattle.sal_value.specs.declared.value.Value.{Value}
 use Rattle.sal_value.specs.Spelling.{is_legal, name_is_spelled}
+use Rattle.sal_ast.specs.declared.program.Program.{Program}
+use Rattle.sal_ast.specs.declared.statement.Stage.{Stage}
+use Rattle.sal_ast.specs.declared.statement.Stmt.{Stmt}
+use Rattle.sal_ast.specs.declared.statement.Chain.{Chain}
+use Rattle.sal_ast.specs.declared.statement.Stage.TheOpen.{Stage-F, Stmt-F, Chain-F}
+use Rattle.sal_ast.specs.declared.statement.Stage.TheFolds.{fold-Stage, fold-Stmt, fold-Chain}
+use Rattle.sal_ast.specs.Depth.{greatest}
+use Rattle.sal_ast.specs.Members.{handlers_of}
 use Rattle.sal_mail.specs.declared.message.Piece.{Piece}
 use Rattle.sal_mail.specs.declared.message.Piece.TheVariants.{Known, Token}
 use Rattle.sal_mail.specs.declared.message.Reply.{Reply}
@@ -17,8 +25,10 @@ use Rattle.sal_mail.specs.declared.effects.Answer.{Answer}
 use Rattle.sal_mail.specs.declared.effects.Answer.TheVariants as answer
 use Rattle.sal_mail.specs.declared.effects.Effects.{Effects}
 use Rattle.sal_mail.specs.Address.{address}
+use Rattle.sal_handler.specs.declared.turn.Outcome.TheVariants.{Done}
 use Rattle.sal_handler.specs.Calls.{Call}
 use Rattle.sal_handler.specs.Scopes.{fresh_name}
+use Rattle.sal_handler.specs.Handler.{handle}
 
 -- it holds of each
 abbrev pub EachOf : {X : Type 0} → (X → Type 0) → List X → Type 0
@@ -91,6 +101,45 @@ abbrev pub AreNamed : List Name → ℕ → List Actor → Type 0
 AreNamed fresh i [] = Unit {0}
 AreNamed fresh i (a ∷ actors) = (a.name ≡ fresh_name fresh i) × AreNamed fresh (i + 1) actors
 
+-- ---- arguments
+
+-- the most arguments of a message in a stage, a statement, a chain
+abbrev pub args_of_stage : Stage-F ℕ ℕ ℕ → ℕ
+args_of_stage (Stage-F.Message m) = length m.args
+args_of_stage (Stage-F.Join at body) = greatest body
+
+abbrev pub args_of_stmt : Stmt-F ℕ ℕ ℕ → ℕ
+args_of_stmt (Stmt-F.Empty at) = 0
+args_of_stmt (Stmt-F.Block at list) = greatest list
+args_of_stmt (Stmt-F.Declare d) = 0
+args_of_stmt (Stmt-F.Assign a) = 0
+args_of_stmt (Stmt-F.If at test first None) = first
+args_of_stmt (Stmt-F.If at test first (Some second)) = max first second
+args_of_stmt (Stmt-F.While at test body) = body
+args_of_stmt (Stmt-F.For at first test next body) = body
+args_of_stmt (Stmt-F.Return at value) = 0
+args_of_stmt (Stmt-F.Token at name chain) = chain
+args_of_stmt (Stmt-F.Chain chain passed) = chain
+
+abbrev pub args_of_chain : Chain-F ℕ ℕ ℕ → ℕ
+args_of_chain c = greatest c.stages
+
+unfoldable pub stage_args : Stage → ℕ
+stage_args = fold-Stage ℕ ℕ ℕ args_of_stage args_of_stmt args_of_chain
+
+unfoldable pub stmt_args : Stmt → ℕ
+stmt_args = fold-Stmt ℕ ℕ ℕ args_of_stage args_of_stmt args_of_chain
+
+unfoldable pub chain_args : Chain → ℕ
+chain_args = fold-Chain ℕ ℕ ℕ args_of_stage args_of_stmt args_of_chain
+
+abbrev pub body_args : List Stmt → ℕ
+body_args body = greatest (map stmt_args body)
+
+-- the most arguments of a message in the program's handlers
+unfoldable pub program_args : Program → ℕ
+program_args p = greatest (map (λ b. greatest (map (λ h. body_args h.body) (handlers_of b))) p.behaviors)
+
 -- ---- the law
 
 -- the reply is no token and no place of this actor with a number from this one on
@@ -126,3 +175,7 @@ pub record IsFair (most : ℕ) (c : Call) (e : Effects) : Type 0 where
   pub creations : EachOf (λ x. EachOf Legal x.fields) e.creations
   pub fields : EachOf Legal e.fields
   pub count : length e.fields ≡ length c.fields
+
+-- The effects of every handler of every program are fair, where the call is sound.
+abbrev pub HandlersAreFair : Type 0
+HandlersAreFair = (p : Program) (c : Call) (e : Effects) → IsSoundCall c → handle p c ≡ Done e → IsFair (program_args p) c e

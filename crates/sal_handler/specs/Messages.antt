@@ -1,5 +1,5 @@
 -- What one message stage does.
-use Rattle.std.specs.Prelude.{ℕ, pos, ◌==◌, nat_lt, if◌then◌else◌, List, [], ◌∷◌, ◌++◌, length, filter_map, codes, Option, Some, None, Ok}
+use Rattle.std.specs.Prelude.{ℕ, pos, ◌==◌, nat_lt, if◌then◌else◌, List, [], ◌∷◌, ◌++◌, length, codes, Option, Some, None, Ok}
 use Rattle.std.specs.List.{list_any}
 use Rattle.std.specs.Str.{bytes_eq}
 use Rattle.sal_value.specs.declared.value.Value.{Value, out-Value}
@@ -100,9 +100,14 @@ delay_of (Some v) = delay_in (out-Value v)
 
 -- ---- what it waits for
 
+abbrev pub if_any : Option ℕ → List ℕ
+if_any None = []
+if_any (Some n) = n ∷ []
+
 -- what isn't a token's name is waited for by nobody
 abbrev pub waits : List Ident → State → List ℕ
-waits names s = filter_map (λ name. token_named name.text s) names
+waits [] s = []
+waits (name ∷ names) s = if_any (token_named name.text s) ++ waits names s
 
 abbrev pub waits_in : Property → State → List ℕ
 waits_in (property.Delay at time) s = []
@@ -111,10 +116,6 @@ waits_in (property.WaitFor at names) s = waits names s
 abbrev pub waited : List Property → State → List ℕ
 waited [] s = []
 waited (p ∷ more) s = waits_in p s ++ waited more s
-
-abbrev pub if_any : Option ℕ → List ℕ
-if_any None = []
-if_any (Some n) = n ∷ []
 
 -- the stages directly before the joins whose blocks hold the message, from the innermost outwards
 abbrev pub befores : List Inside → List ℕ
