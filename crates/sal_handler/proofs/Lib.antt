@@ -3,6 +3,7 @@ pub mod After
 pub mod Evaluations
 pub mod Executions
 pub mod FairExpressions
+pub mod FairJoins
 pub mod FairMessages
 pub mod Induction
 pub mod Legal

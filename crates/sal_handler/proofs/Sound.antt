@@ -375,7 +375,7 @@ module _ (from most width : ℕ) where
     pub below : (k : ℕ) → k < from → taken_in k t ≡ 0
     pub above : (k : ℕ) → s.serial ≤ k → taken_in k t ≡ 0
 
-  number_added : (r : Reads) (p : ℕ) (s t : State) (n : ℕ) → Sound r p s → Fresh r n s → ((k : ℕ) → taken_in k t ≡ taken_in k s + is_number k n) → NumberAdded s t
+  pub number_added : (r : Reads) (p : ℕ) (s t : State) (n : ℕ) → Sound r p s → Fresh r n s → ((k : ℕ) → taken_in k t ≡ taken_in k s + is_number k n) → NumberAdded s t
   number_added r p s t n h f e = record {
     once = λ k. elim (by_number k n) [
       | inl same ↦ let zero : taken_in k s ≡ 0 = ap (λ m. taken_in m s) same ∙ f.unused in omega (arith, e k, zero, number_most k n)
