@@ -43,6 +43,17 @@ fn string(alloc: Global, string: &str) -> Expr {
     Expr::Str(text(alloc, string), 0)
 }
 
+/// What stands for a form that found no memory. Its other parts are dropped here, and not in an arm beside the form's own,
+/// where each variant would be a goal.
+fn null<T: Drop>(_parts: T) -> Expr {
+    Expr::Null(0)
+}
+
+/// The same of a statement.
+fn empty<T: Drop>(_parts: T) -> Stmt {
+    Stmt::Empty(0)
+}
+
 /// `!(inner)`
 fn not(alloc: Global, inner: Expr) -> Expr {
     let paren = match Boxed::new(alloc, inner) {
@@ -67,7 +78,7 @@ fn level(alloc: Global, first: Expr, op: Op, value: Expr) -> Expr {
     let rest = one(alloc, Operand { op, at: 0, value });
     match Boxed::new(alloc, first) {
         Ok(first) => Expr::Level { first, rest },
-        Err(_) => Expr::Null(0),
+        Err(_) => null(rest),
     }
 }
 
@@ -76,7 +87,7 @@ fn suffixed(alloc: Global, first: Expr, index: Expr) -> Expr {
     let rest = and(one(alloc, Suffix::Index(0, index)), Suffix::Length(0));
     match Boxed::new(alloc, first) {
         Ok(first) => Expr::Suffixed { first, rest },
-        Err(_) => Expr::Null(0),
+        Err(_) => null(rest),
     }
 }
 
@@ -85,7 +96,7 @@ fn make(alloc: Global) -> Expr {
     let sort = sort(BaseName::Int, 2);
     match Boxed::new(alloc, number(2)) {
         Ok(size) => Expr::Make { at: 0, sort, size },
-        Err(_) => Expr::Null(0),
+        Err(_) => null(sort),
     }
 }
 
@@ -112,7 +123,7 @@ fn by_name(alloc: Global, cast: Option<Ident>) -> Expr {
             behavior,
             name,
         },
-        Err(_) => Expr::Null(0),
+        Err(_) => null((cast, behavior)),
     }
 }
 
@@ -144,14 +155,14 @@ fn when(alloc: Global, test: Expr, yes: Stmt, no: Option<Boxed<Stmt>>) -> Stmt {
             yes,
             no,
         },
-        Err(_) => Stmt::Empty(0),
+        Err(_) => empty((test, no)),
     }
 }
 
 fn looped(alloc: Global, test: Expr, body: Stmt) -> Stmt {
     match Boxed::new(alloc, body) {
         Ok(body) => Stmt::While { at: 0, test, body },
-        Err(_) => Stmt::Empty(0),
+        Err(_) => empty(test),
     }
 }
 
@@ -170,7 +181,7 @@ fn counted(
             next,
             body,
         },
-        Err(_) => Stmt::Empty(0),
+        Err(_) => empty((init, test, next)),
     }
 }
 
@@ -386,7 +397,7 @@ fn spelled(alloc: Global, program: &Program) -> Result<(Text, Text), NoMemory> {
 fn wanted(alloc: Global) -> Result<(Text, Text), NoMemory> {
     let mut texts = Text::new(alloc);
     let mut kinds = Text::new(alloc);
-    for (line, letters) in SPELLED {
+    for (line, letters) in SPELLED.iter() {
         texts.push_str(line)?;
         texts.push_str(" ")?;
         kinds.push_str(letters)?;
