@@ -27,3 +27,7 @@ when P false x y f g = g refl
 -- of what it is known to give
 pub after_is : {A : Type 0} (P : A → State → Type 0) (x : Checked (A × State)) (a : A) (t : State) → After P x → x ≡ Ok (a, t) → P a t
 after_is P x a t p e = subst (After P) e p
+
+pub after_both : {A : Type 0} (P Q : A → State → Type 0) (x : Checked (A × State)) → After P x → After Q x → After (λ a t. P a t × Q a t) x
+after_both P Q (Ok x) p q = (p, q)
+after_both P Q (Err k) p q = tt

@@ -1,11 +1,10 @@
 -- Chains and joins keep the state sound.
-use Rattle.std.proofs.Common.{◌≡◌, ◌≢◌, ℕ, zero, suc, ◌+◌, ◌≤◌, ◌<◌, Bool, true, false, if◌then◌else◌, List, [], ◌∷◌, ◌++◌, length, Option, Some, None, Ok, Err, refl, sym, ap, subst, ◌∙◌, arith, append_assoc}
-use Rattle.std.specs.Prelude.{slice_set, replicate}
+use Rattle.std.proofs.Common.{◌≡◌, ℕ, ◌+◌, ◌≤◌, ◌<◌, Bool, true, false, if◌then◌else◌, List, [], ◌∷◌, ◌++◌, length, Option, Some, None, Ok, Err, refl, sym, ap, subst, ◌∙◌, arith, append_assoc}
+use Rattle.std.specs.Prelude.{slice_set, replicate, nat_lt}
+use Rattle.sal_mail.specs.declared.fault.Trap.TheVariants.{TooManyMessages}
 use Rattle.std.proofs.Math.Seq.{set-append_seam}
-use Rattle.sal_value.specs.declared.name.Name.{Name}
-use Rattle.sal_value.specs.declared.value.Value.{Value}
 use Rattle.sal_mail.specs.declared.message.Reply.{Reply}
-use Rattle.sal_mail.specs.declared.message.Reply.TheVariants.{Nobody, Tok, Place}
+use Rattle.sal_mail.specs.declared.message.Reply.TheVariants.{Tok, Place}
 use Rattle.sal_mail.specs.declared.message.Join.{Join}
 use Rattle.sal_mail.specs.Address.{address}
 use Rattle.sal_handler.specs.declared.state.End.{End}
@@ -14,16 +13,15 @@ use Rattle.sal_handler.specs.declared.state.Flow.{Flow}
 use Rattle.sal_handler.specs.declared.state.Flow.TheVariants.{Next, Returned, Passed}
 use Rattle.sal_handler.specs.declared.state.Inside.{Inside}
 use Rattle.sal_handler.specs.declared.state.State.{State}
-use Rattle.sal_handler.specs.Evaluation.{Checked, and_then, Eval, ◌>>=◌, ◌>>◌, pure}
-use Rattle.sal_handler.specs.Scopes as c
+use Rattle.sal_handler.specs.Evaluation.{Checked, ◌>>=◌}
 use Rattle.sal_handler.specs.Scopes.{Reads}
 use Rattle.sal_handler.specs.Messages as m
 use Rattle.sal_handler.specs.Statements as t
 use Rattle.sal_handler.specs.Statements.{StageRun, Run}
-use Rattle.sal_handler.specs.Fair.{EachOf, total, is_number, Legal, IsWithin, IsOwedWell, owes}
-use Rattle.sal_handler.proofs.After.{After, then_after, after_more}
+use Rattle.sal_handler.specs.Fair.{EachOf, total, is_number, Legal, IsWithin, owes}
+use Rattle.sal_handler.proofs.After.{After, then_after, after_more, after_both}
 use Rattle.sal_handler.proofs.Induction.{IfAny}
-use Rattle.sal_handler.proofs.Addresses.{total_append, each_append, each_front, each_back, each_more}
+use Rattle.sal_handler.proofs.Addresses.{total_append, each_append, each_front, each_back}
 use Rattle.sal_handler.proofs.Sound as d
 use Rattle.sal_handler.proofs.Sound.{IsGoodInside, NotInnermost, Able}
 use Rattle.sal_handler.proofs.FairExpressions as x
@@ -114,3 +112,134 @@ module _ (from most width : ℕ) where
         fields = h.fields;
         count = h.count;
       }
+
+  -- what a join leaves, with its number
+  pub record Joined (r : Reads) (q n : ℕ) (s u : State) : Type 0 where
+    pub sound : Sound r q u
+    pub number : IsWithin from u.serial n
+    pub serial : s.serial ≤ u.serial
+    pub joins : (more : List Join) × (u.joins ≡ s.joins ++ more)
+    pub places : (k i : ℕ) → from ≤ k → k < s.serial → (k ≡ n → ⊥) → NotInnermost k r.within → d.owed_in (address (Place r.me k i)) u ≡ d.owed_in (address (Place r.me k i)) s
+
+  -- a join that stood open is closed: what it is numbered and owes stays
+  module _ (r : Reads) (p q : ℕ) (s b : State) (open_one shut : Join) (before : Option ℕ) (h : Sound r p s) (f : d.Fresh from most width r open_one.number s) (o : d.Owing from most width r p q s open_one.reply)
+      (number : shut.number ≡ open_one.number) (reply : shut.reply ≡ open_one.reply) (k : Sound (t.within_join open_one.number before r) q b) (mv : d.Moves from most width (t.within_join open_one.number before r) (with_join open_one s) b) where
+    abbrev more : List Join
+    more = mv.joins.0
+
+    abbrev left : State
+    left = record b { places = s.places; joins = slice_set b.joins (length s.joins) shut }
+
+    stood : b.joins ≡ s.joins ++ open_one ∷ more
+    stood = mv.joins.1 ∙ append_assoc s.joins (open_one ∷ []) more
+
+    stands : left.joins ≡ s.joins ++ shut ∷ more
+    stands = ap (λ l. slice_set l (length s.joins) shut) stood ∙ set-append_seam s.joins open_one more shut
+
+    same_total : (g : Join → ℕ) → g shut ≡ g open_one → total g left.joins ≡ total g b.joins
+    same_total g e =
+        let x : total g left.joins ≡ total g (s.joins ++ shut ∷ more) = ap (total g) stands in
+        let z : total g b.joins ≡ total g (s.joins ++ open_one ∷ more) = ap (total g) stood in
+        omega (arith, x, z, e, total_append g s.joins (shut ∷ more), total_append g s.joins (open_one ∷ more))
+
+    same_taken : (k : ℕ) → d.taken_in k left ≡ d.taken_in k b
+    same_taken k = omega (arith, same_total (λ j. is_number k j.number) (ap (is_number k) number))
+
+    same_owed : (a : List ℕ) → d.owed_in a left ≡ d.owed_in a b
+    same_owed a = omega (arith, same_total (λ j. owes a j.reply) (ap (owes a) reply))
+
+    next_left : (is : List Inside) → r.within ≡ is → EachOf (IsGoodInside from s.serial) is → d.NextPlaces from most width is r.me s → d.NextOwes from most width is r.me s open_one.reply → NotInnermost open_one.number is → d.NextPlaces from most width is r.me left
+    next_left [] e w n z x = tt
+    next_left (i ∷ is) e w n z x = λ k l.
+        let a : List ℕ = address (Place r.me i.join k) in
+        omega (arith, same_owed a, mv.places i.join k w.0.0.0 w.0.0.1 (λ same. x (sym same)), join_owed open_one s a, n k l, z k l)
+
+    each_left : EachOf (λ j. d.OwedWell from most width r b.serial j.reply) left.joins
+    each_left =
+        let good : EachOf (λ j. d.OwedWell from most width r b.serial j.reply) (s.joins ++ open_one ∷ more) = subst (EachOf (λ j. d.OwedWell from most width r b.serial j.reply)) stood k.joins in
+        let behind = each_back (λ j. d.OwedWell from most width r b.serial j.reply) s.joins (open_one ∷ more) good in
+        subst (EachOf (λ j. d.OwedWell from most width r b.serial j.reply)) (sym stands)
+        (each_append (λ j. d.OwedWell from most width r b.serial j.reply) s.joins (shut ∷ more) (each_front (λ j. d.OwedWell from most width r b.serial j.reply) s.joins (open_one ∷ more) good)
+        (subst (d.OwedWell from most width r b.serial) (sym reply) behind.0, behind.1))
+
+    sound_left : Sound r q left
+    sound_left = record {
+      low = k.low;
+      once = λ n. omega (arith, same_taken n, k.once n);
+      below = λ n l. omega (arith, same_taken n, k.below n l);
+      above = λ n l. omega (arith, same_taken n, k.above n l);
+      owed_once = λ a some. omega (arith, same_owed (address a), k.owed_once a some);
+      new_tokens = λ n l. omega (arith, same_owed (address (Tok r.me n)), k.new_tokens n l);
+      new_places = λ n i l. omega (arith, same_owed (address (Place r.me n i)), k.new_places n i l);
+      next_places = next_left r.within refl h.within h.next_places o.next_places f.other;
+      caller = λ some. omega (arith, same_owed (address r.reply), k.caller some);
+      within = k.within.1;
+      locals = k.locals;
+      messages = k.messages;
+      joins = each_left;
+      names = k.names;
+      actors = k.actors;
+      creations = k.creations;
+      fields = k.fields;
+      count = k.count;
+    }
+
+    pub joined_left : Joined r q open_one.number s left
+    joined_left = record {
+      sound = sound_left;
+      number = (f.within.0, omega (arith, f.within.1, mv.serial));
+      serial = mv.serial;
+      joins = (shut ∷ more, stands);
+      places = λ n i a c other in_none. omega (arith, same_owed (address (Place r.me n i)), mv.places n i a c other, join_owed open_one s (address (Place r.me n i)), o.places n i a in_none);
+    }
+
+  joined_fair : (void : Bool) (block : Run) → RunFair block → (r : Reads) (p q n : ℕ) (before : Option ℕ) (owes_to : Reply) → Able from r → (s : State) → Sound r p s → d.Fresh from most width r n s → d.Owing from most width r p q s owes_to → OfLast before s →
+      After (λ k u. (k ≡ n) × Joined r q n s u) (t.joined void block r before n owes_to s)
+  joined_fair void block fair r p q n before owes_to able s h f o g =
+      then_after (λ (e : Flow). λ b. d.Reach from most width (t.within_join n before r) (exit q e) (with_join one s) b × FlowOk (t.within_join n before r) e b) (λ (k : ℕ). λ u. (k ≡ n) × Joined r q n s u)
+      (block (t.within_join n before r) (with_join one s)) (λ e b. Ok (n, t.closed (length s.joins) n void owes_to s.places b)) inner.holds (λ e b z. (refl, ends e b z.0 z.1))
+    where
+      one : Join
+      one = record { number = n; places = []; void = void; reply = owes_to }
+
+      inner : Fair (t.within_join n before r) (exit q) (FlowOk (t.within_join n before r)) (with_join one s) (block (t.within_join n before r) (with_join one s))
+      inner = fair (t.within_join n before r) q (λ e. absurd cc) (record { me = able.me; fresh = able.fresh; reply = able.reply; make = able.make }) (with_join one s) (sound_open r p q s one before h f o g)
+
+      ends : (e : Flow) (b : State) → d.Reach from most width (t.within_join n before r) (exit q e) (with_join one s) b → FlowOk (t.within_join n before r) e b → Joined r q n s (t.closed (length s.joins) n void owes_to s.places b)
+      ends Next b z ok = joined_left r p q s b one (record { number = n; places = replicate b.places None; void = void; reply = owes_to }) before h f o refl refl z.sound z.moves
+      ends (Returned v) b z ok = joined_left r p q s b one (record { number = n; places = replicate b.places None; void = void; reply = owes_to }) before h f o refl refl z.sound z.moves
+      ends Passed b z ok = absurd cc
+
+  -- the number that a join takes is the next one
+  count_is : (s : State) → After (λ (n : ℕ). λ u. n ≡ s.serial) (t.count_join s)
+  count_is s = at (nat_lt (length s.joins) 1024) (nat_lt s.serial 18446744073709551615)
+    where
+      at : (a b : Bool) → After (λ (n : ℕ). λ u. n ≡ s.serial) (if a then (if b then Ok (s.serial, record s { serial = s.serial + 1 }) else Err TooManyMessages) else Err TooManyMessages)
+      at true true = refl
+      at true false = tt
+      at false b = tt
+
+  whole : (r : Reads) (p q n : ℕ) (s u v w : State) → n ≡ s.serial → d.Moves from most width r s u → d.Moves from most width r u v → Joined r q n v w → d.Reach from most width r q s w
+  whole r p q n s u v w is a b j =
+      let c = d.moves_then from most width r s u v a b in
+      record {
+        sound = j.sound;
+        moves = record {
+          serial = omega (arith, c.serial, j.serial);
+          joins = (c.joins.0 ++ j.joins.0, j.joins.1 ∙ ap (λ l. l ++ j.joins.0) c.joins.1 ∙ append_assoc s.joins c.joins.0 j.joins.0);
+          places = λ k i e l x. j.places k i e (omega (arith, l, c.serial)) (λ same. absurd (omega (arith, same, is, l))) x ∙ c.places k i e l x;
+        };
+      }
+
+  pub join_fair : (void : State → Bool) (block : Run) → RunFair block → y.StageFair from most width (t.join void block)
+  join_fair void block fair r p before last ok able s h g = record {
+    holds =
+        then_after (λ (n : ℕ). λ u. (d.Reach from most width r p s u × d.Fresh from most width r n u) × (n ≡ s.serial)) (λ (n : ℕ). λ w. d.Reach from most width r (y.exit_end from most width p last) s w × IsWithin from w.serial n) (t.count_join s)
+        (λ n. m.owed last r n >>= (λ owes. t.joined (void s) block r before n owes))
+        (after_both (λ (n : ℕ). λ u. d.Reach from most width r p s u × d.Fresh from most width r n u) (λ (n : ℕ). λ u. n ≡ s.serial) (t.count_join s) (x.counted_fair from most width (length s.joins) r p s h).holds (count_is s)) (λ n u a.
+        then_after (λ (o : Reply). λ v. d.Reach from most width r p u v × (d.Owing from most width r p (y.exit_end from most width p last) v o × d.Fresh from most width r n v)) (λ (n : ℕ). λ w. d.Reach from most width r (y.exit_end from most width p last) s w × IsWithin from w.serial n) (m.owed last r n u)
+        (λ owes. t.joined (void s) block r before n owes) (y.owed_fair from most width last r p n ok able u a.0.0.sound a.0.1).holds (λ o v b.
+        after_more (λ (k : ℕ). λ w. (k ≡ n) × Joined r (y.exit_end from most width p last) n v w) (λ (k : ℕ). λ w. d.Reach from most width r (y.exit_end from most width p last) s w × IsWithin from w.serial k) (t.joined (void s) block r before n o v)
+        (λ k w z. (whole r p (y.exit_end from most width p last) n s u v w a.1 a.0.0.moves b.0.moves z.1, subst (λ l. IsWithin from w.serial l) (sym z.0) z.1.number))
+        (joined_fair (void s) block fair r p (y.exit_end from most width p last) n before o able v b.0.sound b.1.1 b.1.0 (d.if_more from most width s.serial v.serial before (omega (arith, a.0.0.moves.serial, b.0.moves.serial)) g))));
+  }

@@ -213,7 +213,7 @@ module _ (from most width : ℕ) where
       at true = record { holds = (record { sound = d.sound_place from most width r p s h; moves = d.moves_quiet from most width r s (record s { places = s.places + 1 }) (omega arith) refl (λ a. refl) }, (d.owing_place from most width r p s i.join able h within unowed other next, fresh_place r n s f)) }
       at false = d.fair_err from most width r (λ (a : Reply). p) (OfOwed r p p n) s TooManyMessages
 
-  owed_fair : (last : End) (r : Reads) (p n : ℕ) → LastOk p last → Able from r → (s : State) → Sound r p s → d.Fresh from most width r n s → Keeps r p (OfOwed r p (exit_end p last) n) s (m.owed last r n s)
+  pub owed_fair : (last : End) (r : Reads) (p n : ℕ) → LastOk p last → Able from r → (s : State) → Sound r p s → d.Fresh from most width r n s → Keeps r p (OfOwed r p (exit_end p last) n) s (m.owed last r n s)
   owed_fair end.Nobody r p n ok able s h f = d.fair_pure from most width r (λ (a : Reply). p) (OfOwed r p p n) s Nobody h (d.owing_nobody from most width r p s h, f)
   owed_fair end.Token r p n ok able s h f = d.fair_pure from most width r (λ (a : Reply). p) (OfOwed r p p n) s (Tok r.me n) h (d.owing_token from most width r p s n able h f, f)
   owed_fair end.Place r p n ok able s h f = place_fair r.within r p n refl able s h f
