@@ -166,7 +166,7 @@ chain_layer : (y : LayerC) → CP (roll-Chain (chain_trees y))
 unfolding stage_sense sense chain_sense
 chain_layer y = ap (λ x. x.0) (fold-roll-Chain StageSense Sense ChainSense stage_step stmt_step chain_step (chain_trees y)) ∙ ap roll-Chain (chain_again y)
 
-stmt_part : (x : Stmt) → TP x
+pub stmt_part : (x : Stmt) → TP x
 stmt_part = ind-Stmt GP TP CP (λ x y is. subst (λ z. GP (roll-Stage z)) is (stage_layer y)) (λ x y is. subst (λ z. TP (roll-Stmt z)) is (stmt_layer y)) (λ x y is. subst (λ z. CP (roll-Chain z)) is (chain_layer y))
 
 -- ---- the equations

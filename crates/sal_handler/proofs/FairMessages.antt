@@ -58,7 +58,7 @@ module _ (from most width : ℕ) where
 
   -- ---- tokens
 
-  get_each : {X : Type 0} (P : X → Type 0) (xs : List X) (i : ℕ) → EachOf P xs → IfAny P (slice_get xs i)
+  pub get_each : {X : Type 0} (P : X → Type 0) (xs : List X) (i : ℕ) → EachOf P xs → IfAny P (slice_get xs i)
   get_each P [] i e = tt
   get_each P (x ∷ xs) zero e = e.0
   get_each P (x ∷ xs) (suc i) e = get_each P xs i e.1

@@ -2,9 +2,12 @@ pub mod Addresses
 pub mod After
 pub mod Evaluations
 pub mod Executions
+pub mod FairCalls
 pub mod FairExpressions
+pub mod FairHandlers
 pub mod FairJoins
 pub mod FairMessages
+pub mod FairStatements
 pub mod Induction
 pub mod Legal
 pub mod Listed

@@ -1,3 +1,4 @@
+ghost use Rattle.sal_handler.specs.Fair.{HandlersAreFair};
 ghost use Rattle.sal_handler.specs.Loops.{LoopsStopThemselves};
 ghost use Rattle.sal_handler.specs.Prints.{ChainsOfPrintsAreSent};
 
@@ -10,4 +11,10 @@ pub fn chains_of_prints_are_sent()
 /// A loop's bound never shows, and no handler begins more than 100,000 loop turns.
 pub fn loops_stop_themselves()
     ensures { LoopsStopThemselves }
+{}
+
+/// The effects of every handler are fair: its numbers, what its messages wait for, and to whom replies
+/// are owed.
+pub fn handlers_are_fair()
+    ensures { HandlersAreFair }
 {}
