@@ -21,15 +21,23 @@ use Rattle.sal_source.specs.declared.state.End.TheVariants as end
 use Rattle.sal_source.specs.declared.state.Setup.{Setup}
 use Rattle.sal_source.specs.declared.state.Step.TheVariants as step
 use Rattle.sal_source.specs.Table.{Words, Table, words_eq, write, table_of}
-use Rattle.sal_source.specs.Keys.{name_key, made_key, message_key}
+use Rattle.sal_source.specs.Keys.{name_key, made_key, message_key, actor_key}
 use Rattle.sal_source.specs.Listed.{found}
 use Rattle.sal_mail.specs.declared.effects.Effects.{Effects}
-use Rattle.sal_source.specs.declared.state.Outcome.TheVariants as outcome
+use Rattle.sal_handler.specs.declared.turn.Outcome.{Outcome}
+use Rattle.sal_handler.specs.declared.turn.Outcome.TheVariants as outcome
+use Rattle.sal_handler.specs.declared.turn.Began.TheVariants as began
+use Rattle.sal_handler.specs.Calls.{Meaning}
 use Rattle.sal_source.specs.Evaluation.{Checked, Reads}
 use Rattle.sal_source.specs.Handler as h
-use Rattle.sal_source.specs.Configuration.{Configuration, actor_key, start_name, start_actor, act_message, first_of}
-use Rattle.sal_source.specs.Give.{resolve, give}
-use Rattle.sal_source.proofs.Played.{ready, met_done}
+use Rattle.sal_source.specs.Configuration.{Waiting, Configuration, start_name, start_actor, act_message, first_of}
+use Rattle.sal_mail.specs.declared.message.Reply.TheVariants.{Nobody, Tok}
+use Rattle.sal_source.specs.Give.{resolve, give, give_all, give_to, settled, told_after}
+use Rattle.sal_source.specs.Cut.{begun_of, meaning_of}
+use Rattle.sal_source.specs.Meeting.{CalledBy}
+use Rattle.sal_source.proofs.Played.{ready}
+use Rattle.sal_source.proofs.Handled.{handle_called}
+use Rattle.sal_source.proofs.Legal.{null_legal, given_alone, told_alone}
 use Rattle.sal_source.specs.Step as s
 use Rattle.sal_source.specs.Run.{steps}
 use Rattle.sal_source.specs.Prints.{Print, Outline, argument_of, stage_of, body_of, program_of, string_in, line_of, lines_of, IsShort, AreShort, print_steps, trace, Runs}
@@ -37,8 +45,12 @@ use Rattle.sal_source.specs.Stages.{count_at, body_count, print_count}
 use Rattle.sal_source.proofs.Counts.{count-Chain}
 use Rattle.sal_source.proofs.Evaluations.{eval-Str}
 use Rattle.sal_source.proofs.Executions.{exec-Chain, stage-Message}
+use Rattle.std.proofs.Common.{true≢false}
+use Rattle.sal_source.specs.Table.{words_cmp}
+use Rattle.sal_mail.specs.declared.effects.Creation.{Creation}
+use Rattle.sal_value.specs.declared.name.Name.{Name}
 use Rattle.sal_source.proofs.Tables.{words_refl, same_words, words_apart, same_table, get-write, get-table_of, table-each}
-use Rattle.sal_source.proofs.Kept.{resolve_keeps}
+use Rattle.sal_source.proofs.Waits.{resolve_keeps}
 
 -- ---- the messages of the chain
 
@@ -116,8 +128,11 @@ start_is o = refl
 abbrev effects_of : List Print → Effects
 effects_of ps = h.effects [] (state (length ps) (chained None 0 ps))
 
+abbrev meaning : Outline → Meaning
+meaning o = meaning_of (program_of o)
+
 handle_is : (o : Outline) (m : Message) → m.handler ≡ 0 → AreShort o.prints → length o.prints ≤ 1024 →
-    h.handle (program_of o) (s.call_of m (start_actor 0).0 0) ≡ outcome.Done (effects_of o.prints)
+    (meaning o).outcome (s.call_of m (start_actor 0 []) []) ≡ outcome.Done (effects_of o.prints)
 unfolding h.handle
 handle_is o m e short few = rw (e, body_is o.prints short few) refl
 
@@ -136,38 +151,58 @@ module _ {X : Type 0} (key : X → Words) where
 
 -- ---- `act` is handled
 
-filled : (ms : List Message) (c : Configuration) → c.messages ≡ table_of message_key [] → s.put_messages ms c ≡ record c { messages = table_of message_key ms }
-filled [] c e = ap (λ (t : Table Message). record c { messages = t }) e
-filled (m ∷ ms) c e = ap (s.put_message m) (filled ms c e)
+filled : (before : Option ℕ) (number : ℕ) (ps : List Print) (t : Table Message) → t ≡ table_of message_key [] → s.put_messages (chained before number ps) t ≡ table_of message_key (chained before number ps)
+filled before number [] t e = e
+filled before number (p ∷ ps) t e = ap (s.put_message (sent before number p (end_after ps))) (filled (Some number) (number + 1) ps t e)
 
 abbrev acted : ℕ → Table (Actor × ℕ)
-acted n = write (table_of actor_key (start_actor 0 ∷ [])) (name_key start_name) (Some ((start_actor 0).0, n))
+acted n = write (table_of actor_key (start_actor 0 [] ∷ [])) (name_key start_name) (Some ((start_actor 0 []).0, n))
+
+abbrev no_creations : Table (Name × Creation)
+no_creations = fm.empty
+
+abbrev wait_for : List Message → Waiting
+wait_for ms = record { messages = table_of message_key ms; joins = fm.empty }
 
 -- the chain is left from this number on
 abbrev at : ℕ → ℕ → List Print → List (List ℕ) → Configuration
 at n number ps output = record {
   actors = acted n;
-  messages = table_of message_key (chained None number ps);
   given = fs.from_list (name_key start_name ∷ []);
+  creations = no_creations;
+  waiting = wait_for (chained None number ps);
   output = output;
   faults = [];
   answers = [];
+  posted = 0;
 }
 
 abbrev begun : List Value → Configuration
-begun words = first_of words (Some (0, 0))
+begun words = first_of words (began.Actor 0 0 [])
 
 abbrev act : List Value → Message
 act words = act_message words 0 0
 
-acts : (o : Outline) (words : List Value) → AreShort o.prints → length o.prints ≤ 1024 →
-    s.step (program_of o) (begun words) (step.Handle (Outside 0) 0 []) ≡ Some (at (length o.prints) 0 o.prints [])
+called : (words : List Value) → CalledBy (Outside 0) 0 (begun words) (act words) (start_actor 0 [])
+called words = record { pending = get_head message_key (act words) []; ready = refl; there = get_head actor_key (start_actor 0 []) []; understands = refl }
+
+-- a reply to nobody
+gave_nobody : (c : Configuration) → give_all ((Nobody, Null) ∷ []) c ≡ c
+gave_nobody c =
+    let w : settled ((Nobody, Null) ∷ []) c.waiting ≡ c.waiting = given_alone Nobody Null c.waiting null_legal refl in
+    let t : c.answers ++ told_after ((Nobody, Null) ∷ []) c.waiting ≡ c.answers = ap (λ l. c.answers ++ l) (told_alone Nobody Null c.waiting null_legal refl) ∙ append-nil c.answers in
+    λ i. record c { waiting = w i; answers = t i }
+
+acts : (o : Outline) (setup : Setup) (words : List Value) → AreShort o.prints → length o.prints ≤ 1024 →
+    s.step (meaning o) setup (begun words) (step.Handle (Outside 0) 0 []) ≡ Some (at (length o.prints) 0 o.prints [])
 unfolding s.step
-acts o words short few =
-    let dropped : Configuration = s.drop_message (act words) (begun words) in
-    ready (s.pending (Outside 0) 0 (begun words)) (act words) (λ m. s.handle_message (program_of o) m (s.drop_message m (begun words))) (get_head message_key (act words) []) refl
-    ∙ met_done (program_of o) (act words) dropped (start_actor 0) (effects_of o.prints) (get_head actor_key (start_actor 0) []) refl (handle_is o (act words) refl short few)
-    ∙ ap (λ c. Some (s.put_actor (start_actor 0).0 (length o.prints) c)) (filled (chained None 0 o.prints) dropped (drop_head message_key (act words) [] refl))
+acts o setup words short few =
+    let dropped : Configuration = s.drop_message (Outside 0) 0 (begun words) in
+    let e : Effects = effects_of o.prints in
+    handle_called (meaning o).outcome (Outside 0) 0 [] (begun words) (act words) (start_actor 0 []) (called words)
+    ∙ ap (λ (x : Outcome). s.after_outcome x (Outside 0) 0 [] (act words) (start_actor 0 []).0 dropped) (handle_is o (act words) refl short few)
+    ∙ ap Some (gave_nobody (s.installed e (start_actor 0 []).0 dropped))
+    ∙ ap (λ (t : Table Message). Some (record (at (length o.prints) 0 [] []) { waiting = record { messages = t; joins = fm.empty } })) (filled None 0 o.prints _ (drop_head message_key (act words) [] refl))
 
 -- ---- a stage is printed
 
@@ -217,31 +252,39 @@ printed_is p before number last = rw (text_is p.text) (by_name (bytes_eq p.handl
 
 -- what is left once the first message was taken out and its text was told
 abbrev told_one : ℕ → ℕ → List Print → List (List ℕ) → Configuration
-told_one n number ps output = record (at n number [] output) { messages = table_of message_key (chained (Some number) (number + 1) ps) }
+told_one n number ps output = record (at n number [] output) { waiting = wait_for (chained (Some number) (number + 1) ps) }
+
+-- the reply of a stage that has a stage after it
+gave_token : (number : ℕ) (c : Configuration) → give_all ((Tok start_name number, Null) ∷ []) c ≡ record c { waiting = give_to (Tok start_name number) Null c.waiting }
+gave_token number c =
+    let w : settled ((Tok start_name number, Null) ∷ []) c.waiting ≡ give_to (Tok start_name number) Null c.waiting = given_alone (Tok start_name number) Null c.waiting null_legal refl in
+    let t : c.answers ++ told_after ((Tok start_name number, Null) ∷ []) c.waiting ≡ c.answers = ap (λ l. c.answers ++ l) (told_alone (Tok start_name number) Null c.waiting null_legal refl) ∙ append-nil c.answers in
+    λ i. record c { waiting = w i; answers = t i }
 
 given_one : (n number : ℕ) (ps : List Print) (output : List (List ℕ)) → give (h.owed (end_after ps) start_name number) Null (told_one n number ps output) ≡ at n (number + 1) ps output
-given_one n number [] output = refl
+given_one n number [] output = gave_nobody (told_one n number [] output)
 given_one n number (p ∷ ps) output =
-    ap (λ (t : Table Message). record (at n number [] output) { messages = t })
+    gave_token number (told_one n number (p ∷ ps) output)
+    ∙ ap (λ (t : Table Message). record (at n number [] output) { waiting = record { messages = t; joins = fm.empty } })
     (sym (table-each message_key (resolve start_name number Null) (resolve_keeps start_name number Null) (chained (Some number) (number + 1) (p ∷ ps))) ∙ ap (table_of message_key) (released number (p ∷ ps)))
 
-prints_one : (o : Outline) (n number : ℕ) (p : Print) (ps : List Print) (output : List (List ℕ)) →
-    s.step (program_of o) (at n number (p ∷ ps) output) (step.Print start_name number) ≡ Some (at n (number + 1) ps (output ++ line_of p ∷ []))
+prints_one : (o : Outline) (setup : Setup) (n number : ℕ) (p : Print) (ps : List Print) (output : List (List ℕ)) →
+    s.step (meaning o) setup (at n number (p ∷ ps) output) (step.Print start_name number) ≡ Some (at n (number + 1) ps (output ++ line_of p ∷ []))
 unfolding s.step
-prints_one o n number p ps output =
+prints_one o setup n number p ps output =
     let m : Message = sent None number p (end_after ps) in
     let c : Configuration = at n number (p ∷ ps) output in
-    ready (s.pending start_name number c) m (λ m. s.print_message m (s.drop_message m c)) (get_head message_key m (chained (Some number) (number + 1) ps)) (rw (args_known p.text) refl)
-    ∙ ap (λ (t : Table Message). Some (give m.reply Null (record c { messages = t; output = output ++ s.printed m ∷ [] }))) (drop_head message_key m (chained (Some number) (number + 1) ps) (later number (number + 1) (Some number) ps (omega arith)))
+    ready (s.pending start_name number c) m (λ m. s.print_message start_name number m c) (get_head message_key m (chained (Some number) (number + 1) ps)) (rw (args_known p.text) refl)
+    ∙ ap (λ (t : Table Message). Some (give m.reply Null (record c { waiting = record { messages = t; joins = fm.empty }; output = output ++ s.printed m ∷ [] }))) (drop_head message_key m (chained (Some number) (number + 1) ps) (later number (number + 1) (Some number) ps (omega arith)))
     ∙ ap (λ text. Some (give m.reply Null (told_one n number ps (output ++ text ∷ [])))) (printed_is p None number (end_after ps))
     ∙ ap (λ d. Some d) (given_one n number ps (output ++ line_of p ∷ []))
 
-prints_all : (o : Outline) (n number : ℕ) (ps : List Print) (output : List (List ℕ)) → steps (program_of o) (at n number ps output) (print_steps number (length ps)) ≡ Some (at n (number + length ps) [] (output ++ lines_of ps))
+prints_all : (o : Outline) (setup : Setup) (n number : ℕ) (ps : List Print) (output : List (List ℕ)) → steps (meaning o) setup (at n number ps output) (print_steps number (length ps)) ≡ Some (at n (number + length ps) [] (output ++ lines_of ps))
 unfolding steps
-prints_all o n number [] output = ap (λ x. Some (at n number [] x)) (sym (append-nil output))
-prints_all o n number (p ∷ ps) output =
-    ap (option_and_then (λ d. steps (program_of o) d (print_steps (number + 1) (length ps)))) (prints_one o n number p ps output)
-    ∙ prints_all o n (number + 1) ps (output ++ line_of p ∷ [])
+prints_all o setup n number [] output = ap (λ x. Some (at n number [] x)) (sym (append-nil output))
+prints_all o setup n number (p ∷ ps) output =
+    ap (option_and_then (λ d. steps (meaning o) setup d (print_steps (number + 1) (length ps)))) (prints_one o setup n number p ps output)
+    ∙ prints_all o setup n (number + 1) ps (output ++ line_of p ∷ [])
     ∙ last ((number + 1) + length ps) (number + length (p ∷ ps)) ((output ++ line_of p ∷ []) ++ lines_of ps) (output ++ lines_of (p ∷ ps)) (omega arith) (append_assoc output (line_of p ∷ []) (lines_of ps))
   where
     last : (a b : ℕ) (x y : List (List ℕ)) → a ≡ b → x ≡ y → Some (at n a [] x) ≡ Some (at n b [] y)
@@ -250,11 +293,16 @@ prints_all o n number (p ∷ ps) output =
 none_left : (q : Words) → fm.get (table_of message_key []) q ≡ None
 none_left q = get-table_of message_key [] q
 
-no_step : (o : Outline) (n number : ℕ) (output : List (List ℕ)) → s.IsFinal (program_of o) (at n number [] output)
+no_creation : (q : Words) → fm.get no_creations q ≡ None
+no_creation q = fm.get-empty words_cmp q
+
+no_step : (o : Outline) (setup : Setup) (n number : ℕ) (output : List (List ℕ)) → s.IsFinal (meaning o) setup (at n number [] output)
 unfolding s.step
-no_step o n number output (step.Handle maker serial []) = rw (none_left (made_key maker serial)) refl
-no_step o n number output (step.Handle maker serial (name ∷ names)) = refl
-no_step o n number output (step.Print maker serial) = rw (none_left (made_key maker serial)) refl
+no_step o setup n number output (step.Handle maker serial fresh) e = rw (none_left (made_key maker serial)) refl
+no_step o setup n number output (step.Print maker serial) e = rw (none_left (made_key maker serial)) refl
+no_step o setup n number output (step.Bind maker serial) e = rw (no_creation (made_key maker serial)) refl
+no_step o setup n number output (step.Refuse maker serial) e = rw (no_creation (made_key maker serial)) refl
+no_step o setup n number output (step.Post k to behavior handler args) e = absurd (true≢false e)
 
 counted : (o : Outline) → print_count (program_of o) ≡ length o.prints
 counted o = ap (count_at (program_of o)) (start_is o) ∙ counted_body o.prints
@@ -269,11 +317,11 @@ runs o setup few short = record {
   count = counted o;
   end = at (length o.prints) (0 + length o.prints) [] (lines_of o.prints);
   is_run =
-      ap (λ f. steps (program_of o) (first_of setup.words f) (trace (length o.prints))) (start_is o)
-      ∙ ap (option_and_then (λ d. steps (program_of o) d (print_steps 0 (length o.prints)))) (acts o setup.words short few)
-      ∙ prints_all o (length o.prints) 0 o.prints [];
+      ap (λ f. steps (meaning o) setup (first_of setup.words (begun_of f)) (trace (length o.prints))) (start_is o)
+      ∙ ap (option_and_then (λ d. steps (meaning o) setup d (print_steps 0 (length o.prints)))) (acts o setup setup.words short few)
+      ∙ prints_all o setup (length o.prints) 0 o.prints [];
   output = refl;
   faults = refl;
   answers = refl;
-  final = no_step o (length o.prints) (0 + length o.prints) (lines_of o.prints);
+  final = no_step o setup (length o.prints) (0 + length o.prints) (lines_of o.prints);
 }

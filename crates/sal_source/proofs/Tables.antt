@@ -10,7 +10,7 @@ use Rattle.std.specs.FinMap.Entries as es
 use Rattle.sal_source.specs.Table.{Words, words_cmp, words_eq, Table, write, table_map, table_of}
 use Rattle.sal_source.specs.Listed.{found, IsFirst, Finds, AreDistinct}
 
-words_anti : fm.IsAntisymmetric words_cmp
+pub words_anti : fm.IsAntisymmetric words_cmp
 words_anti = fm.slice_cmp-IsAntisymmetric fm.nat_cmp-IsAntisymmetric
 
 pub same_words : (a b : Words) → words_eq a b ≡ true → a ≡ b
@@ -59,9 +59,12 @@ module _ {X Y : Type 0} (f : X → Y) where
     | false ↦ find-map q xs
   ]
 
+  pub entries-map : (t : Table X) → fm.entries (table_map f t) ≡ map (λ e. (e.0, f e.1)) (fm.entries t)
+  entries-map t = fm.entries-from_sorted words_cmp _ (sorted-map (fm.entries t) (fm.entries_sorted t))
+
   pub get-map : (t : Table X) (q : Words) → fm.get (table_map f t) q ≡ option_map f (fm.get t q)
   get-map t q = fm.get-entries (table_map f t) q
-      ∙ ap (es.find words_cmp q) (fm.entries-from_sorted words_cmp _ (sorted-map (fm.entries t) (fm.entries_sorted t)))
+      ∙ ap (es.find words_cmp q) (entries-map t)
       ∙ find-map q (fm.entries t) ∙ ap (option_map f) (sym (fm.get-entries t q))
 
 -- ---- lists for tables

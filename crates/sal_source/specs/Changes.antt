@@ -1,55 +1,58 @@
 -- What the calls that change a configuration answer and leave.
-use Rattle.std.specs.Prelude.{◌≡◌, ℕ, Bool, true, false, List, [], map, Option, Some, None, IfSome, slice_get, slice_set}
-use Rattle.std.specs.FinMap as fm
-use Rattle.std.specs.FinSet as fs
+use Rattle.std.specs.Prelude.{◌≡◌, ℕ, ◌<◌, ◌≤◌, Bool, true, false, List, [], ◌∷◌, ◌++◌, reverse, Option, Some, None, Result, Ok, Err, if◌then◌else◌}
 use Rattle.sal_value.specs.declared.name.Name.{Name}
 use Rattle.sal_value.specs.declared.value.Value.{Value}
-use Rattle.sal_mail.specs.declared.message.Message.{Message}
-use Rattle.sal_mail.specs.declared.effects.Actor.{Actor}
-use Rattle.sal_mail.specs.Message.{is_ready}
-use Rattle.sal_source.specs.Table.{Words, Table, table_of, write}
-use Rattle.sal_source.specs.Listed.{found, IsFirst}
-use Rattle.sal_source.specs.Keys.{name_key, message_key, made_key}
-use Rattle.sal_source.specs.Configuration.{Configuration, actor_key}
-use Rattle.sal_source.specs.Step.{drop_message, put_actor}
+use Rattle.sal_value.specs.declared.text.NoMemory.{NoMemory}
+use Rattle.sal_mail.specs.declared.message.Join.{Join}
+use Rattle.sal_mail.specs.Message.{is_full}
+use Rattle.sal_source.specs.Configuration.{Waiting, Configuration}
+use Rattle.sal_source.specs.Give.{Given, array_of, give_one, released, answer_of, settled, told_after}
+use Rattle.sal_source.specs.Step as s
 
--- where the ready message at this key stands
-abbrev pub FindsReady : Words → List Message → Option ℕ → Type 0
-FindsReady key messages None = IfSome (found message_key key messages) (λ m. is_ready m ≡ false)
-FindsReady key messages (Some at) = (m : Message) × (IsFirst message_key key messages at m × (is_ready m ≡ true))
+-- what a step that is possible leaves; after a refusal and after want of memory all is as before
+abbrev pub Takes : Option Configuration → Configuration → Result Bool NoMemory → Configuration → Type 0
+Takes outcome old (Ok true) new = outcome ≡ Some new
+Takes outcome old (Ok false) new = (outcome ≡ None) × (new ≡ old)
+Takes outcome old (Err e) new = new ≡ old
 
--- the configuration of these lists, in which nothing was told
-abbrev pub untold : List (Actor × ℕ) → List Message → List Name → Configuration
-untold actors messages given = record {
-  actors = table_of actor_key actors;
-  messages = table_of message_key messages;
-  given = fs.from_list (map name_key given);
-  output = [];
-  faults = [];
-  answers = [];
-}
+abbrev pub listed : {A : Type 0} → Option A → List A
+listed None = []
+listed (Some a) = a ∷ []
 
--- the ready message at this key, if there is one, was taken out
-abbrev pub TakesReady : Words → Table Message → Option Message → Table Message → Type 0
-TakesReady key old None new = IfSome (fm.get old key) (λ m. is_ready m ≡ false)
-TakesReady key old (Some m) new = (fm.get old key ≡ Some m) × (is_ready m ≡ true) × (new ≡ write old (message_key m) None)
+-- a place of a list with so many items, or one where an item may be put
+abbrev pub IsWithin : ℕ → Result ℕ ℕ → Type 0
+IsWithin n (Ok i) = i < n
+IsWithin n (Err i) = i ≤ n
 
-abbrev pub Takes : Name → ℕ → Configuration → Option Message → Configuration → Type 0
-Takes maker serial old None new = IfSome (fm.get old.messages (made_key maker serial)) (λ m. is_ready m ≡ false)
-Takes maker serial old (Some m) new = (fm.get old.messages (made_key maker serial) ≡ Some m) × (is_ready m ≡ true) × (new ≡ drop_message m old)
+-- there is such a place, and it is empty
+abbrev pub is_open : Option (Option Value) → Bool
+is_open None = false
+is_open (Some None) = true
+is_open (Some (Some value)) = false
 
--- the actor at this key, where there is one, has these fields and this next number
-abbrev pub Sets : Words → List Value → ℕ → Table (Actor × ℕ) → Table (Actor × ℕ) → Type 0
-Sets key fields next old new = (a : Actor × ℕ) → fm.get old key ≡ Some a → new ≡ write old (name_key a.0.name) (Some (record a.0 { fields = fields }, next))
+-- one reply was given: what waits, the answers, and what it gives on
+pub record GivesOne (g : Given) (old new : Waiting) (answers_old answers_new : List (ℕ × Value)) (more : List Given) : Type 0 where
+  pub waiting : new ≡ give_one g old
+  pub answers : answers_new ≡ answers_old ++ answer_of g
+  pub gives : more ≡ released g old
 
--- the actor at this place has these fields and this next number
-abbrev pub SetsAt : ℕ → List Value → ℕ → List (Actor × ℕ) → List (Actor × ℕ) → Type 0
-SetsAt at fields next old new = (a : Actor × ℕ) → slice_get old at ≡ Some a → new ≡ slice_set old at (record a.0 { fields = fields }, next)
+-- the first reply was given, and what it gives on stands before the others; the replies are listed last one first
+pub record GivesNext (g : Given) (old new : Waiting) (answers_old answers_new : List (ℕ × Value)) (left_old left_new : List Given) : Type 0 where
+  pub waiting : new ≡ give_one g old
+  pub answers : answers_new ≡ answers_old ++ answer_of g
+  pub left : reverse left_new ≡ released g old ++ reverse left_old
 
-abbrev pub SetsActor : Name → List Value → ℕ → Configuration → Configuration → Type 0
-SetsActor name fields next old new = (a : Actor × ℕ) → fm.get old.actors (name_key name) ≡ Some a → new ≡ put_actor (record a.0 { fields = fields }) next old
+-- all replies were given
+pub record Settles (gs : List Given) (old new : Waiting) (answers_old answers_new : List (ℕ × Value)) : Type 0 where
+  pub waiting : new ≡ settled gs old
+  pub answers : answers_new ≡ answers_old ++ told_after gs old
 
--- whether a step was possible, and what it left
-abbrev pub Did : Option Configuration → Bool → Configuration → Type 0
-Did outcome true new = outcome ≡ Some new
-Did outcome false new = outcome ≡ None
+-- a join is open, or gives its array before the others
+pub record Opens (owner : Name) (j : Join) (old new : Waiting) (left_old left_new : List Given) : Type 0 where
+  pub waiting : new ≡ record old { joins = if is_full j then old.joins else s.put_join owner j old.joins }
+  pub left : reverse left_new ≡ array_of j ++ reverse left_old
+
+-- the same of several joins
+pub record OpensAll (owner : Name) (js : List Join) (old new : Waiting) (left_old left_new : List Given) : Type 0 where
+  pub waiting : new ≡ record old { joins = s.put_joins owner js old.joins }
+  pub left : reverse left_new ≡ s.arrays js ++ reverse left_old

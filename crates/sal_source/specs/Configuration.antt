@@ -1,9 +1,10 @@
 -- Configurations: what is there between two steps. No place occurs in one.
-use Rattle.std.specs.Prelude.{ℕ, List, [], ◌∷◌, Option, Some, None, refl}
+use Rattle.std.specs.Prelude.{ℕ, List, [], ◌∷◌, refl}
 use Rattle.std.specs.Coded.{Coded, code_by, coded×, coded_ℕ, coded_list}
 use Rattle.std.specs.FinMap as fm
 use Rattle.std.specs.FinSet as fs
 use Rattle.sal_value.specs.declared.name.Name.{Name}
+use Rattle.sal_value.specs.contracts.name.Name.{the_row as name_row}
 use Rattle.sal_value.specs.declared.name.Name.TheVariants.{Anon, Outside}
 use Rattle.sal_value.specs.declared.value.Value.{Value}
 use Rattle.sal_value.specs.declared.value.Value.TheVariants.{Array}
@@ -13,40 +14,69 @@ use Rattle.sal_mail.specs.declared.message.Reply.TheVariants as reply
 use Rattle.sal_mail.specs.declared.message.Target.TheVariants as target
 use Rattle.sal_mail.specs.declared.message.Message.{Message}
 use Rattle.sal_mail.specs.contracts.message.Message.{the_row as message_row}
+use Rattle.sal_mail.specs.declared.message.Join.{Join}
+use Rattle.sal_mail.specs.contracts.message.Join.{the_row as join_row}
 use Rattle.sal_mail.specs.declared.effects.Actor.{Actor}
 use Rattle.sal_mail.specs.contracts.effects.Actor.{the_row as actor_row}
+use Rattle.sal_mail.specs.declared.effects.Creation.{Creation}
+use Rattle.sal_mail.specs.contracts.effects.Creation.{the_row as creation_row}
 use Rattle.sal_mail.specs.declared.fault.Fault.{Fault}
+use Rattle.sal_mail.specs.declared.fault.FaultKind.TheVariants.{Trap as Trapped}
 use Rattle.sal_mail.specs.contracts.fault.Fault.{the_row as fault_row}
-use Rattle.sal_ast.specs.declared.program.Program.{Program}
+use Rattle.sal_handler.specs.declared.turn.Began.{Began}
+use Rattle.sal_handler.specs.declared.turn.Began.TheVariants as began
+use Rattle.sal_handler.specs.Calls.{Meaning}
 use Rattle.sal_source.specs.declared.state.Setup.{Setup}
 use Rattle.sal_source.specs.Table.{Words, words_cmp, Table, table_of}
-use Rattle.sal_source.specs.Keys.{name_key, message_key}
-use Rattle.sal_source.specs.Handler.{start_of}
+use Rattle.sal_source.specs.Keys.{name_key, message_key, actor_key}
 
--- Actors by name with their next number, and pending messages by number and maker; the names ever
--- given; and what was told, oldest first: printed texts, faults, and answers to calls from outside.
+-- What replies are given to: the pending messages by maker and number, and the open joins by owner and
+-- number. A pending message has no delay.
+pub record Waiting : Type 0 where
+  pub messages : Table Message
+  pub joins : Table (Name × Join)
+
+-- Actors by name, each with its next number; the names ever given; the pending creations by maker and
+-- number; what waits; what was told, oldest first: printed texts, faults, and answers to calls from
+-- outside; and the number of the last post, which is 0 before the first.
 pub record Configuration : Type 0 where
   pub actors : Table (Actor × ℕ)
-  pub messages : Table Message
   pub given : fs.FinSet words_cmp
+  pub creations : Table (Name × Creation)
+  pub waiting : Waiting
   pub output : List (List ℕ)
   pub faults : List Fault
   pub answers : List (ℕ × Value)
+  pub posted : ℕ
+
+-- ---- their codes, so that a type of the program can stand for them
 
 abbrev pub words_code : Coded Words
 words_code = coded_list coded_ℕ
 
+abbrev pub waiting_code : Coded Waiting
+waiting_code =
+    code_by
+    (Table Message × Table (Name × Join))
+    (coded× (fm.code words_code message_row.coded) (fm.code words_code (coded× name_row.coded join_row.coded)))
+    (λ w. (w.messages, w.joins))
+    (λ p. record { messages = p.0; joins = p.1 })
+    (λ _. refl)
+
+abbrev pub actors_code : Coded (Table (Actor × ℕ))
+actors_code = fm.code words_code (coded× actor_row.coded coded_ℕ)
+
+abbrev pub creations_code : Coded (Table (Name × Creation))
+creations_code = fm.code words_code (coded× name_row.coded creation_row.coded)
+
 abbrev pub configuration_code : Coded Configuration
 configuration_code =
     code_by
-    (Table (Actor × ℕ) × (Table Message × (fs.FinSet words_cmp × (List (List ℕ) × (List Fault × List (ℕ × Value))))))
-    (coded× (fm.code words_code (coded× actor_row.coded coded_ℕ)) (coded× (fm.code words_code message_row.coded) (coded× (fs.code words_code) (coded× (coded_list words_code) (coded× (coded_list fault_row.coded) (coded_list (coded× coded_ℕ value_row.coded)))))))
-    (λ c. (c.actors, (c.messages, (c.given, (c.output, (c.faults, c.answers))))))
-    (λ p. record { actors = p.0; messages = p.1.0; given = p.1.1.0; output = p.1.1.1.0; faults = p.1.1.1.1.0; answers = p.1.1.1.1.1 })
+    (Table (Actor × ℕ) × (fs.FinSet words_cmp × (Table (Name × Creation) × (Waiting × (List (List ℕ) × (List Fault × (List (ℕ × Value) × ℕ)))))))
+    (coded× actors_code (coded× (fs.code words_code) (coded× creations_code (coded× waiting_code (coded× (coded_list words_code) (coded× (coded_list fault_row.coded) (coded× (coded_list (coded× coded_ℕ value_row.coded)) coded_ℕ)))))))
+    (λ c. (c.actors, (c.given, (c.creations, (c.waiting, (c.output, (c.faults, (c.answers, c.posted))))))))
+    (λ p. record { actors = p.0; given = p.1.0; creations = p.1.1.0; waiting = p.1.1.1.0; output = p.1.1.1.1.0; faults = p.1.1.1.1.1.0; answers = p.1.1.1.1.1.1.0; posted = p.1.1.1.1.1.1.1 })
     (λ _. refl)
-
-abbrev pub actor_key : Actor × ℕ → Words
-actor_key a = name_key a.0.name
 
 -- ---- the first configuration
 
@@ -54,8 +84,8 @@ actor_key a = name_key a.0.name
 abbrev pub start_name : Name
 start_name = Anon 0 0
 
-abbrev pub start_actor : ℕ → Actor × ℕ
-start_actor behavior = (record { name = start_name; behavior = behavior; fields = [] }, 0)
+abbrev pub start_actor : ℕ → List Value → Actor × ℕ
+start_actor behavior fields = (record { name = start_name; behavior = behavior; fields = fields }, 0)
 
 -- the message `act`, whose argument is the words
 abbrev pub act_message : List Value → ℕ → ℕ → Message
@@ -71,17 +101,28 @@ act_message words behavior handler = record {
   reply = reply.Nobody;
 }
 
-abbrev pub first_of : List Value → Option (ℕ × ℕ) → Configuration
-first_of words None = record { actors = fm.empty; messages = fm.empty; given = fs.empty; output = []; faults = []; answers = [] }
-first_of words (Some start) = record {
-  actors = table_of actor_key (start_actor start.0 ∷ []);
-  messages = table_of message_key (act_message words start.0 start.1 ∷ []);
+-- the start actor stands, its name is given, and `act` is pending; or there is only the fault of the start
+abbrev pub first_of : List Value → Began → Configuration
+first_of words (began.Actor behavior handler fields) = record {
+  actors = table_of actor_key (start_actor behavior fields ∷ []);
   given = fs.from_list (name_key start_name ∷ []);
+  creations = fm.empty;
+  waiting = record { messages = table_of message_key (act_message words behavior handler ∷ []); joins = fm.empty };
   output = [];
   faults = [];
   answers = [];
+  posted = 0;
+}
+first_of words (began.Trap kind) = record {
+  actors = fm.empty;
+  given = fs.empty;
+  creations = fm.empty;
+  waiting = record { messages = fm.empty; joins = fm.empty };
+  output = [];
+  faults = record { maker = Outside 0; serial = 0; kind = Trapped kind } ∷ [];
+  answers = [];
+  posted = 0;
 }
 
--- the start actor stands, its name is given, and `act` is pending
-abbrev pub first : Program → Setup → Configuration
-first p setup = first_of setup.words (start_of p)
+abbrev pub first : Meaning → Setup → Configuration
+first p setup = first_of setup.words p.begun

@@ -36,8 +36,8 @@ use Rattle.sal_mail.specs.declared.effects.Answer.TheVariants as answer
 use Rattle.sal_source.specs.declared.state.State.{State}
 use Rattle.sal_source.specs.declared.state.End.{End}
 use Rattle.sal_source.specs.declared.state.End.TheVariants as end
-use Rattle.sal_source.specs.declared.state.Outcome.{Outcome}
-use Rattle.sal_source.specs.declared.state.Outcome.TheVariants as outcome
+use Rattle.sal_handler.specs.declared.turn.Outcome.{Outcome}
+use Rattle.sal_handler.specs.declared.turn.Outcome.TheVariants as outcome
 use Rattle.sal_source.specs.Evaluation.{Checked, and_then, Eval, ◌>>=◌, ◌>>◌, pure, lift, Reads, next_number, sent}
 
 -- ---- expressions

@@ -1,16 +1,40 @@
--- Names and messages as keys of tables.
-use Rattle.std.specs.Prelude.{ℕ, ◌∷◌}
+-- Names, messages, joins, creations and addresses as keys of tables.
+use Rattle.std.specs.Prelude.{ℕ, [], ◌∷◌}
 use Rattle.sal_value.specs.declared.name.Name.{Name}
 use Rattle.sal_value.specs.Order.{key}
 use Rattle.sal_mail.specs.declared.message.Message.{Message}
+use Rattle.sal_mail.specs.declared.message.Join.{Join}
+use Rattle.sal_mail.specs.declared.message.Reply.{Reply}
+use Rattle.sal_mail.specs.declared.message.Reply.TheVariants.{Nobody, Tok, Place, Outside}
+use Rattle.sal_mail.specs.declared.effects.Actor.{Actor}
+use Rattle.sal_mail.specs.declared.effects.Creation.{Creation}
 use Rattle.sal_source.specs.Table.{Words}
 
 abbrev pub name_key : Name → Words
 name_key = key
 
--- a message is told by its number and its maker
+-- what an actor made is told by its number and its maker
 abbrev pub made_key : Name → ℕ → Words
 made_key maker serial = serial ∷ name_key maker
 
 abbrev pub message_key : Message → Words
 message_key m = made_key m.maker m.serial
+
+-- a join with its owner
+abbrev pub join_key : Name × Join → Words
+join_key j = made_key j.0 j.1.number
+
+-- a creation with its maker
+abbrev pub creation_key : Name × Creation → Words
+creation_key c = made_key c.0 c.1.serial
+
+-- an actor with its next number
+abbrev pub actor_key : Actor × ℕ → Words
+actor_key a = name_key a.0.name
+
+-- the address to which a reply is owed; `Nobody` has none
+abbrev pub address : Reply → Words
+address Nobody = []
+address (Tok owner number) = 0 ∷ number ∷ name_key owner
+address (Place owner join at) = 1 ∷ at ∷ join ∷ name_key owner
+address (Outside number) = 2 ∷ number ∷ []

@@ -2,13 +2,16 @@ pub mod Table
 pub mod Keys
 pub mod Evaluation
 pub mod Handler
+pub mod Cut
 pub mod Configuration
 pub mod Give
+pub mod Posts
 pub mod Step
 pub mod Run
+pub mod Laws
 pub mod Stages
 pub mod Prints
 pub mod Listed
 pub mod Changes
-pub mod Playing
+pub mod Meeting
 pub mod Reading

@@ -1,7 +1,14 @@
 -- How lists stand for tables: what the code that keeps a configuration finds in its lists.
-use Rattle.std.specs.Prelude.{◌≡◌, ℕ, zero, suc, true, false, cond, map, List, [], ◌∷◌, Option, Some, None, T}
+use Rattle.std.specs.Prelude.{◌≡◌, ℕ, zero, suc, true, false, cond, map, List, [], ◌∷◌, Option, Some, None, Result, Ok, Err, T}
 use Rattle.std.specs.FinMap.Entries.{is_sorted}
+use Rattle.std.specs.declared.cmp.Ordering.TheVariants.{Less}
+use Rattle.sal_value.specs.declared.name.Name.{Name}
 use Rattle.sal_source.specs.Table.{Words, words_cmp, words_eq}
+use Rattle.sal_source.specs.Keys.{made_key}
+
+-- the key of what an actor made, by its maker and number
+abbrev pub key_by : {X : Type 0} → (X → Name) → (X → ℕ) → X → Words
+key_by maker number x = made_key (maker x) (number x)
 
 -- the first item at a key
 abbrev pub found : {X : Type 0} → (X → Words) → Words → List X → Option X
@@ -27,3 +34,14 @@ AreDistinct key (x ∷ xs) = (found key (key x) xs ≡ None) × AreDistinct key 
 -- the items stand in the order of their keys
 abbrev pub IsSorted : {X : Type 0} → (X → Words) → List X → Type 0
 IsSorted key xs = T (is_sorted words_cmp (map (λ x. (key x, x)) xs))
+
+-- in a sorted list the key is above those of the items before the place, and below the others
+abbrev pub SplitsAt : {X : Type 0} → (X → Words) → Words → List X → ℕ → Type 0
+SplitsAt key q [] i = Unit {0}
+SplitsAt key q (x ∷ xs) zero = words_cmp q (key x) ≡ Less
+SplitsAt key q (x ∷ xs) (suc i) = (words_cmp (key x) q ≡ Less) × SplitsAt key q xs i
+
+-- the place of the item at the key in a sorted list, or else the one where it would stand
+abbrev pub Searches : {X : Type 0} → (X → Words) → Words → List X → Result ℕ ℕ → Type 0
+Searches {X} key q xs (Ok i) = (y : X) × IsFirst key q xs i y
+Searches key q xs (Err i) = SplitsAt key q xs i

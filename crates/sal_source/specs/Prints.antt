@@ -23,6 +23,7 @@ use Rattle.sal_source.specs.declared.state.Step.TheVariants as step
 use Rattle.sal_source.specs.Configuration.{Configuration}
 use Rattle.sal_source.specs.Step.{IsFinal}
 use Rattle.sal_source.specs.Stages.{print_count}
+use Rattle.sal_source.specs.Cut.{meaning_of}
 use Rattle.sal_source.specs.Run.{play}
 
 -- a stage: the byte of `standardOutput`, `print` or `println` with its byte, and perhaps a string
@@ -105,7 +106,7 @@ pub record Runs (o : Outline) (setup : Setup) : Type 0 where
   pub output : end.output ≡ lines_of o.prints
   pub faults : end.faults ≡ []
   pub answers : end.answers ≡ []
-  pub final : IsFinal (program_of o) end
+  pub final : IsFinal (meaning_of (program_of o)) setup end
 
 -- every chain of at most 1,024 prints has such a run
 abbrev pub ChainsOfPrintsRun : Type 0

@@ -1,96 +1,198 @@
 -- One step: which are possible, and what they change.
-use Rattle.std.specs.Prelude.{◌≡◌, ℕ, Bool, true, nat_eq, ◌&&◌, is_some, List, [], ◌∷◌, ◌++◌, Option, Some, None, if◌then◌else◌}
+use Rattle.std.specs.Prelude.{◌≡◌, ℕ, Bool, true, false, nat_eq, ◌&&◌, ◌||◌, not, is_some, length, List, [], ◌∷◌, ◌++◌, codes, Option, Some, None, if◌then◌else◌}
+use Rattle.std.specs.List.{list_all, list_any}
+use Rattle.std.specs.Fmt.{signed_decimal}
+use Rattle.std.specs.Str.{bytes_eq}
 use Rattle.std.specs.FinMap as fm
+use Rattle.std.specs.FinSet as fs
 use Rattle.sal_value.specs.declared.name.Name.{Name}
+use Rattle.sal_value.specs.declared.name.Name.TheVariants as name
+use Rattle.sal_value.specs.declared.name.Uan.{Uan}
+use Rattle.sal_value.specs.declared.name.Authority.{Authority}
 use Rattle.sal_value.specs.declared.value.Value.{Value}
-use Rattle.sal_value.specs.declared.value.Value.TheVariants.{Str, Null}
+use Rattle.sal_value.specs.declared.value.Value.TheVariants as v
 use Rattle.sal_mail.specs.declared.message.Piece.{Piece}
-use Rattle.sal_mail.specs.declared.message.Piece.TheVariants.{Known}
+use Rattle.sal_mail.specs.declared.message.Piece.TheVariants.{Known, Token}
+use Rattle.sal_mail.specs.declared.message.Reply.{Reply}
 use Rattle.sal_mail.specs.declared.message.Target.{Target}
 use Rattle.sal_mail.specs.declared.message.Target.TheVariants as target
 use Rattle.sal_mail.specs.declared.message.Message.{Message}
+use Rattle.sal_mail.specs.declared.message.Join.{Join}
 use Rattle.sal_mail.specs.declared.effects.Actor.{Actor}
+use Rattle.sal_mail.specs.declared.effects.Creation.{Creation}
 use Rattle.sal_mail.specs.declared.effects.Effects.{Effects}
 use Rattle.sal_mail.specs.declared.effects.Answer.{Answer}
 use Rattle.sal_mail.specs.declared.effects.Answer.TheVariants as answer
 use Rattle.sal_mail.specs.declared.fault.FaultKind.{FaultKind}
-use Rattle.sal_mail.specs.declared.fault.FaultKind.TheVariants.{Trap as Trapped, NoHandler}
-use Rattle.sal_mail.specs.Message.{is_ready}
-use Rattle.sal_ast.specs.declared.program.Program.{Program}
+use Rattle.sal_mail.specs.declared.fault.FaultKind.TheVariants.{Trap as Trapped, NoHandler, NameTaken}
+use Rattle.sal_mail.specs.Message.{is_ready, known_values, undelayed, is_full}
+use Rattle.sal_handler.specs.Calls.{Call, Meaning}
+use Rattle.sal_handler.specs.declared.turn.Outcome.{Outcome}
+use Rattle.sal_handler.specs.declared.turn.Outcome.TheVariants as outcome
+use Rattle.sal_source.specs.declared.state.Setup.{Setup}
 use Rattle.sal_source.specs.declared.state.Step.{Step}
-use Rattle.sal_source.specs.declared.state.Step.TheVariants.{Handle, Print}
-use Rattle.sal_source.specs.declared.state.Outcome.{Outcome}
-use Rattle.sal_source.specs.declared.state.Outcome.TheVariants as outcome
-use Rattle.sal_source.specs.Table.{write}
+use Rattle.sal_source.specs.declared.state.Step.TheVariants.{Handle, Print, Bind, Refuse, Post}
+use Rattle.sal_source.specs.Table.{words_cmp, words_eq, Table, write}
 use Rattle.sal_source.specs.Keys.{name_key, made_key, message_key}
-use Rattle.sal_source.specs.Handler.{Call, handle}
 use Rattle.sal_source.specs.Configuration.{Configuration}
-use Rattle.sal_source.specs.Give.{give}
+use Rattle.sal_source.specs.Give.{Given, array_of, give, give_all}
+use Rattle.sal_source.specs.Posts.{fits_post, post_message}
 
--- ---- the parts of a change
+-- ---- what is put, and what goes
 
-abbrev pub drop_message : Message → Configuration → Configuration
-drop_message m c = record c { messages = write c.messages (message_key m) None }
+abbrev pub put_message : Message → Table Message → Table Message
+put_message m t = write t (message_key m) (Some (undelayed m))
 
-abbrev pub put_message : Message → Configuration → Configuration
-put_message m c = record c { messages = write c.messages (message_key m) (Some m) }
+-- of two with one number the first stays
+abbrev pub put_messages : List Message → Table Message → Table Message
+put_messages [] t = t
+put_messages (m ∷ ms) t = put_message m (put_messages ms t)
 
-abbrev pub put_messages : List Message → Configuration → Configuration
-put_messages [] c = c
-put_messages (m ∷ ms) c = put_message m (put_messages ms c)
+abbrev pub put_join : Name → Join → Table (Name × Join) → Table (Name × Join)
+put_join owner j t = write t (made_key owner j.number) (Some (owner, j))
 
-abbrev pub put_actor : Actor → ℕ → Configuration → Configuration
-put_actor a next c = record c { actors = write c.actors (name_key a.name) (Some (a, next)) }
+-- those that are open yet
+abbrev pub put_joins : Name → List Join → Table (Name × Join) → Table (Name × Join)
+put_joins owner [] t = t
+put_joins owner (j ∷ js) t = if is_full j then put_joins owner js t else put_join owner j (put_joins owner js t)
 
-abbrev pub add_fault : FaultKind → Message → Configuration → Configuration
-add_fault kind m c = record c { faults = c.faults ++ record { maker = m.maker; serial = m.serial; kind = kind } ∷ [] }
+abbrev pub put_creation : Name → Creation → Table (Name × Creation) → Table (Name × Creation)
+put_creation maker x t = write t (made_key maker x.serial) (Some (maker, x))
+
+abbrev pub put_creations : Name → List Creation → Table (Name × Creation) → Table (Name × Creation)
+put_creations maker [] t = t
+put_creations maker (x ∷ xs) t = put_creation maker x (put_creations maker xs t)
+
+-- a new actor has next number 0
+abbrev pub put_actors : List Actor → Table (Actor × ℕ) → Table (Actor × ℕ)
+put_actors [] t = t
+put_actors (a ∷ actors) t = write (put_actors actors t) (name_key a.name) (Some (a, 0))
+
+abbrev pub give_names : List Actor → fs.FinSet words_cmp → fs.FinSet words_cmp
+give_names [] given = given
+give_names (a ∷ actors) given = fs.insert (give_names actors given) (name_key a.name)
+
+-- the message with this maker and number goes
+abbrev pub drop_message : Name → ℕ → Configuration → Configuration
+drop_message maker serial c = record c { waiting = record c.waiting { messages = write c.waiting.messages (made_key maker serial) None } }
+
+abbrev pub add_fault : FaultKind → Name → ℕ → Configuration → Configuration
+add_fault kind maker serial c = record c { faults = c.faults ++ record { maker = maker; serial = serial; kind = kind } ∷ [] }
 
 abbrev pub add_output : List ℕ → Configuration → Configuration
 add_output text c = record c { output = c.output ++ text ∷ [] }
 
--- ---- a handler
+-- ---- handling a message
 
-abbrev pub call_of : Message → Actor → ℕ → Call
-call_of m a next = record { me = a.name; behavior = a.behavior; fields = a.fields; handler = m.handler; serial = next }
+-- `migrate` is behaviour 65,535 with handler 65,535
+abbrev pub is_migrate : Message → Bool
+is_migrate m = nat_eq m.behavior 65535 && nat_eq m.handler 65535
 
--- fields, next number and messages of the effects
+-- an actor understands the messages of its behaviour, and `migrate`
+abbrev pub understands : Actor → Message → Bool
+understands a m = nat_eq m.behavior a.behavior || is_migrate m
+
+-- new actors take the fresh names, of which no place is known
+abbrev pub call_of : Message → Actor × ℕ → List Name → Call
+call_of m a fresh = record {
+  me = a.0.name;
+  behavior = a.0.behavior;
+  fields = a.0.fields;
+  handler = m.handler;
+  args = known_values m.args;
+  reply = m.reply;
+  serial = a.1;
+  names = fresh;
+  fresh = 0;
+}
+
+abbrev pub is_anonymous : Name → Bool
+is_anonymous (name.Anon theatre number) = true
+is_anonymous (name.Uan u) = false
+is_anonymous (name.Outside number) = false
+
+abbrev pub is_new : fs.FinSet words_cmp → Name → Bool
+is_new given n = is_anonymous n && not (fs.contains given (name_key n))
+
+abbrev pub are_different : List Name → Bool
+are_different [] = true
+are_different (n ∷ names) = not (list_any (λ m. words_eq (name_key n) (name_key m)) names) && are_different names
+
+-- different anonymous names that were never given
+abbrev pub are_fresh : List Name → fs.FinSet words_cmp → Bool
+are_fresh names given = list_all (is_new given) names && are_different names
+
+-- just as many fresh names as the handler made actors
+abbrev pub fits_fresh : List Name → Effects → Configuration → Bool
+fits_fresh fresh e c = nat_eq (length fresh) (length e.actors) && are_fresh fresh c.given
+
+-- the actor has its fields and its next number, and what the handler made is there
 abbrev pub installed : Effects → Actor → Configuration → Configuration
-installed e a c = put_actor (record a { fields = e.fields }) e.serial (put_messages e.messages c)
+installed e a c = record c {
+  actors = write (put_actors e.actors c.actors) (name_key a.name) (Some (record a { fields = e.fields }, e.serial));
+  given = give_names e.actors c.given;
+  creations = put_creations a.name e.creations c.creations;
+  waiting = record { messages = put_messages e.messages c.waiting.messages; joins = put_joins a.name e.joins c.waiting.joins };
+}
 
--- the answer, unless it was passed on
-abbrev pub answered : Answer → Message → Configuration → Configuration
-answered (answer.Value v) m c = give m.reply v c
-answered answer.Passed m c = c
+-- the answer goes to the message's reply, unless it was passed on
+abbrev pub answered : Answer → Reply → List Given
+answered (answer.Value value) reply = (reply, value) ∷ []
+answered answer.Passed reply = []
 
-abbrev pub after_outcome : Outcome → Message → Actor → Configuration → Configuration
-after_outcome (outcome.Done e) m a c = answered e.answer m (installed e a c)
-after_outcome (outcome.Trap k) m a c = add_fault (Trapped k) m c
+-- the arrays of the full joins, in the order of their numbers
+abbrev pub arrays : List Join → List Given
+arrays [] = []
+arrays (j ∷ js) = array_of j ++ arrays js
 
--- a message whose behaviour isn't the actor's meets no handler
-abbrev pub handled : Program → Message → Actor × ℕ → Configuration → Configuration
-handled p m a c = if nat_eq m.behavior a.0.behavior then after_outcome (handle p (call_of m a.0 a.1)) m a.0 c else add_fault NoHandler m c
+-- and then the answer
+abbrev pub step_gives : Effects → Reply → List Given
+step_gives e reply = arrays e.joins ++ answered e.answer reply
 
-abbrev pub handled_by : Program → Message → Option (Actor × ℕ) → Configuration → Option Configuration
-handled_by p m None c = None
-handled_by p m (Some a) c = Some (handled p m a c)
+-- where there is nothing to name, no name is taken
+abbrev pub unnamed : List Name → Configuration → Option Configuration
+unnamed [] c = Some c
+unnamed (n ∷ names) c = None
+
+-- a message whose actor doesn't understand it goes
+abbrev pub unhandled : Name → ℕ → List Name → Configuration → Option Configuration
+unhandled maker serial fresh c = unnamed fresh (add_fault NoHandler maker serial (drop_message maker serial c))
+
+-- what comes of a message that went, by what its handler does; a trap leaves nothing else of the handler
+abbrev pub after_outcome : Outcome → Name → ℕ → List Name → Message → Actor → Configuration → Option Configuration
+after_outcome (outcome.Done e) maker serial fresh m a c = if fits_fresh fresh e c then Some (give_all (step_gives e m.reply) (installed e a c)) else None
+after_outcome (outcome.Trap kind) maker serial fresh m a c = unnamed fresh (add_fault (Trapped kind) maker serial c)
+
+-- a message that went meets the actor
+abbrev pub handled : (Call → Outcome) → Name → ℕ → List Name → Message → Actor × ℕ → Configuration → Option Configuration
+handled outcomes maker serial fresh m a c =
+    if understands a.0 m then after_outcome (outcomes (call_of m a fresh)) maker serial fresh m a.0 c else unnamed fresh (add_fault NoHandler maker serial c)
+
+abbrev pub handled_by : (Call → Outcome) → Name → ℕ → List Name → Message → Option (Actor × ℕ) → Configuration → Option Configuration
+handled_by outcomes maker serial fresh m None c = None
+handled_by outcomes maker serial fresh m (Some a) c = handled outcomes maker serial fresh m a c
 
 abbrev pub actor_at : Target → Configuration → Option (Actor × ℕ)
-actor_at (target.Actor name) c = fm.get c.actors (name_key name)
+actor_at (target.Actor n) c = fm.get c.actors (name_key n)
 actor_at target.Output c = None
 
-abbrev pub handle_message : Program → Message → Configuration → Option Configuration
-handle_message p m c = handled_by p m (actor_at m.target c) c
+abbrev pub handle_message : (Call → Outcome) → Name → ℕ → List Name → Message → Configuration → Option Configuration
+handle_message outcomes maker serial fresh m c = handled_by outcomes maker serial fresh m (actor_at m.target c) (drop_message maker serial c)
 
--- ---- a print
+-- ---- printing a message
 
+-- a text, an int's decimal, or a boolean's word
 abbrev pub value_text : Value → List ℕ
-value_text (Str text) = text
+value_text (v.Str text) = text
+value_text (v.Int n) = signed_decimal n
+value_text (v.Bool b) = if b then codes "true" else codes "false"
 value_text _ = []
 
 abbrev pub piece_text : Piece → List ℕ
-piece_text (Known v) = value_text v
-piece_text _ = []
+piece_text (Known value) = value_text value
+piece_text (Token number) = []
 
+-- of no argument, and of what has no text, nothing
 abbrev pub argument_text : List Piece → List ℕ
 argument_text (p ∷ []) = piece_text p
 argument_text _ = []
@@ -100,50 +202,111 @@ abbrev pub printed : Message → List ℕ
 printed m = if nat_eq m.handler 1 then argument_text m.args ++ 10 ∷ [] else argument_text m.args
 
 abbrev pub print_to : Target → Message → Configuration → Option Configuration
-print_to target.Output m c = Some (give m.reply Null (add_output (printed m) c))
-print_to (target.Actor name) m c = None
+print_to target.Output m c = Some (give m.reply v.Null (add_output (printed m) c))
+print_to (target.Actor n) m c = None
 
-abbrev pub print_message : Message → Configuration → Option Configuration
-print_message m c = print_to m.target m c
+-- its text is told, and null is its reply
+abbrev pub print_message : Name → ℕ → Message → Configuration → Option Configuration
+print_message maker serial m c = print_to m.target m (drop_message maker serial c)
+
+-- ---- creations
+
+-- the naming service of the name's host and port is among these
+abbrev pub serves : Authority → Uan → Bool
+serves a u = bytes_eq a.host u.host && nat_eq a.port u.port
+
+abbrev pub is_served : List Authority → Uan → Bool
+is_served authorities u = list_any (λ a. serves a u) authorities
+
+abbrev pub is_given : Creation → Configuration → Bool
+is_given x c = fs.contains c.given (name_key (name.Uan x.name))
+
+-- the creation with this maker and number goes
+abbrev pub drop_creation : Name → ℕ → Configuration → Configuration
+drop_creation maker serial c = record c { creations = write c.creations (made_key maker serial) None }
+
+abbrev pub bound_actor : Creation → Actor
+bound_actor x = record { name = name.Uan x.name; behavior = x.behavior; fields = x.fields }
+
+-- the actor exists, and its name is given
+abbrev pub bound : Creation → Configuration → Configuration
+bound x c = record c { actors = write c.actors (name_key (name.Uan x.name)) (Some (bound_actor x, 0)); given = fs.insert c.given (name_key (name.Uan x.name)) }
+
+abbrev pub bind : List Authority → Name → ℕ → Option (Name × Creation) → Configuration → Option Configuration
+bind authorities maker serial None c = None
+bind authorities maker serial (Some x) c = if is_served authorities x.1.name && not (is_given x.1 c) then Some (bound x.1 (drop_creation maker serial c)) else None
+
+abbrev pub refuse : Name → ℕ → Option (Name × Creation) → Configuration → Option Configuration
+refuse maker serial None c = None
+refuse maker serial (Some x) c = if is_given x.1 c then Some (add_fault NameTaken maker serial (drop_creation maker serial c)) else None
 
 -- ---- steps
 
--- what the pending message with this key allows, if it is ready
+-- what the pending message allows, if it is ready
 abbrev pub ready_only : Option Message → (Message → Option Configuration) → Option Configuration
 ready_only None f = None
 ready_only (Some m) f = if is_ready m then f m else None
 
 abbrev pub pending : Name → ℕ → Configuration → Option Message
-pending maker serial c = fm.get c.messages (made_key maker serial)
+pending maker serial c = fm.get c.waiting.messages (made_key maker serial)
 
 -- the ready message goes, and is handled
-abbrev pub handle_step : Program → Name → ℕ → Configuration → Option Configuration
-handle_step p maker serial c = ready_only (pending maker serial c) (λ m. handle_message p m (drop_message m c))
+abbrev pub handle_step : (Call → Outcome) → Name → ℕ → List Name → Configuration → Option Configuration
+handle_step outcomes maker serial fresh c = ready_only (pending maker serial c) (λ m. handle_message outcomes maker serial fresh m c)
 
 -- the ready message goes, and is printed
 abbrev pub print_step : Name → ℕ → Configuration → Option Configuration
-print_step maker serial c = ready_only (pending maker serial c) (λ m. print_message m (drop_message m c))
+print_step maker serial c = ready_only (pending maker serial c) (λ m. print_message maker serial m c)
 
--- the configuration after a step, where the step is possible; no handler makes an actor yet
-unfoldable pub step : Program → Configuration → Step → Option Configuration
-step p c (Handle maker serial []) = handle_step p maker serial c
-step p c (Handle maker serial (name ∷ names)) = None
-step p c (Print maker serial) = print_step maker serial c
+-- the pending creation goes, where its naming service is there and its name was never given
+abbrev pub bind_step : List Authority → Name → ℕ → Configuration → Option Configuration
+bind_step authorities maker serial c = bind authorities maker serial (fm.get c.creations (made_key maker serial)) c
 
--- no step is possible
-abbrev pub IsFinal : Program → Configuration → Type 0
-IsFinal p c = (s : Step) → step p c s ≡ None
+-- the pending creation goes, where its name was given
+abbrev pub refuse_step : Name → ℕ → Configuration → Option Configuration
+refuse_step maker serial c = refuse maker serial (fm.get c.creations (made_key maker serial)) c
+
+-- the message is pending, and the last post's number is this one
+abbrev pub posted : ℕ → Uan → ℕ → ℕ → List Value → Configuration → Configuration
+posted number to behavior handler args c = record c { waiting = record c.waiting { messages = put_message (post_message number to behavior handler args) c.waiting.messages }; posted = number }
+
+-- a post that fits, where the call fits the program
+abbrev pub post_step : Bool → ℕ → Uan → ℕ → ℕ → List Value → Configuration → Option Configuration
+post_step fits number to behavior handler args c = if fits && fits_post c.posted number to behavior args then Some (posted number to behavior handler args c) else None
+
+-- the configuration after a step, where the step is possible
+unfoldable pub step : Meaning → Setup → Configuration → Step → Option Configuration
+step p setup c (Handle maker serial fresh) = handle_step p.outcome maker serial fresh c
+step p setup c (Print maker serial) = print_step maker serial c
+step p setup c (Bind maker serial) = bind_step setup.authorities maker serial c
+step p setup c (Refuse maker serial) = refuse_step maker serial c
+step p setup c (Post number to behavior handler args) = post_step (p.fits_call behavior handler args) number to behavior handler args c
+
+abbrev pub is_post : Step → Bool
+is_post (Post number to behavior handler args) = true
+is_post (Handle maker serial fresh) = false
+is_post (Print maker serial) = false
+is_post (Bind maker serial) = false
+is_post (Refuse maker serial) = false
+
+-- no step but a post is possible
+abbrev pub IsFinal : Meaning → Setup → Configuration → Type 0
+IsFinal p setup c = (s : Step) → is_post s ≡ false → step p setup c s ≡ None
 
 -- ---- whether a step is possible, whatever the program
 
 abbrev pub has_taker : Target → Configuration → Bool
 has_taker target.Output c = true
-has_taker (target.Actor name) c = is_some (fm.get c.actors (name_key name))
+has_taker (target.Actor n) c = is_some (fm.get c.actors (name_key n))
 
 -- the message is ready, and there is an actor for it, or it goes to the output
 abbrev pub is_possible : Configuration → Message → Bool
 is_possible c m = is_ready m && has_taker m.target c
 
--- no step is possible for any program
-abbrev pub IsAtEnd : Configuration → Type 0
-IsAtEnd c = (p : Program) → IsFinal p c
+-- its naming service is there, or its name was given
+abbrev pub is_decided : List Authority → Configuration → Creation → Bool
+is_decided authorities c x = is_given x c || is_served authorities x.name
+
+-- no step but a post is possible for any program
+abbrev pub IsAtEnd : Setup → Configuration → Type 0
+IsAtEnd setup c = (p : Meaning) → IsFinal p setup c

@@ -1,9 +1,10 @@
 -- Finite tables whose keys are lists of numbers.
-use Rattle.std.specs.Prelude.{ℕ, Bool, List, map, Option, Some, None}
+use Rattle.std.specs.Prelude.{◌≡◌, ℕ, ◌+◌, Bool, List, [], ◌∷◌, map, Option, Some, None}
 use Rattle.std.specs.Ordering.{nat_cmp, eq_by_cmp}
 use Rattle.std.specs.Cmp.Lexicographic.{slice_cmp}
 use Rattle.std.specs.declared.cmp.Ordering.{Ordering}
 use Rattle.std.specs.FinMap as fm
+use Rattle.std.specs.FinSet as fs
 
 abbrev pub Words : Type 0
 Words = List ℕ
@@ -29,3 +30,22 @@ table_map f t = fm.from_sorted (map (λ e. (e.0, f e.1)) (fm.entries t))
 -- the table of these values, each at its key
 abbrev pub table_of : {X : Type 0} → (X → Words) → List X → Table X
 table_of key xs = fm.from_entries (map (λ x. (key x, x)) xs)
+
+-- the keys of a table
+abbrev pub keys_of : {X : Type 0} → Table X → fs.FinSet words_cmp
+keys_of t = fs.from_list (fm.keys t)
+
+-- ---- sums
+
+-- the sum of a number of each item
+abbrev pub total : {X : Type 0} → (X → ℕ) → List X → ℕ
+total f [] = 0
+total f (x ∷ xs) = f x + total f xs
+
+-- the sum of a number of each value
+abbrev pub weigh : {X : Type 0} → (X → ℕ) → Table X → ℕ
+weigh f t = total (λ e. f e.1) (fm.entries t)
+
+-- The same items in any order: each sum over them is the same.
+pub record Same {A : Type 0} (xs ys : List A) : Type 0 where
+  pub weighs : (f : A → ℕ) → total f xs ≡ total f ys

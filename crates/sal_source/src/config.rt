@@ -1,78 +1,295 @@
-//! Configurations, kept as lists.
+//! Configurations, and their steps.
 
-ghost use Rattle.std.specs.Prelude.{◌≡◌, ◌↔◌, IsTrue, OnOk};
+ghost use Rattle.std.specs.Prelude.{◌≡◌, [], true, IfOk, IfSome, OnOk, OnErr};
 ghost use Rattle.std.specs.Option.{option_copied};
 ghost use Rattle.std.specs.FinMap as fm;
-ghost use Rattle.sal_source.specs.Keys.{name_key};
-ghost use Rattle.sal_source.specs.Give as giving;
-ghost use Rattle.sal_source.specs.Step as step;
-ghost use Rattle.sal_source.specs.Keys.{message_key};
-ghost use Rattle.sal_source.specs.Listed.{AreDistinct, IsSorted};
-ghost use Rattle.sal_source.specs.Configuration.{actor_key};
-ghost use Rattle.sal_source.specs.Changes.{Takes, SetsActor, untold};
+ghost use Rattle.sal_source.specs.Table.{keys_of, write};
+ghost use Rattle.sal_source.specs.Keys.{name_key, actor_key};
+ghost use Rattle.sal_source.specs.Configuration.{first_of, act_message};
+ghost use Rattle.sal_source.specs.Step as spec;
+ghost use Rattle.sal_source.specs.Changes.{Takes};
+ghost use Rattle.sal_handler.specs.declared.turn.Began.TheVariants as began;
+ghost use Rattle.sal_handler.specs.declared.turn.Outcome.TheVariants.{Done};
+ghost use Rattle.sal_source.specs.Meeting.{Meets, IsChange, Makes, After, Enters, committed, told, printed, bound, is_output};
 
-use crate::{actors, messages};
-use sal_mail::{Actor, Fault, FaultKind, Message, Reply, Target};
-use sal_value::{List, Name, NoMemory, Text, Value, Values};
+use crate::actors::Actors;
+use crate::creations::Creations;
+use crate::fresh::are_fresh;
+use crate::posts::{fits_post, post_message};
+use crate::services::is_served;
+use crate::waiting::Waiting;
+use crate::{copies, messages, printing};
+use sal_handler::{Began, Outcome};
+use sal_mail::{
+    Actor, Answer, Creation, Effects, Fault, FaultKind, Join, Message, Piece, Reply, Target, Trap,
+};
+use sal_value::{Authority, List, Name, NoMemory, Text, Uan, Value, Values};
 use std::alloc::Global;
 use std::marker::Model;
-use std::mem;
 
-/// A configuration: the actors with their next numbers in the order of their names, the pending
-/// messages, and what was told so far.
+/// A configuration: what is there between two steps.
 #[derive(Drop)]
 pub struct Config {
-    actors: List<(Actor, u64)>,
-    messages: List<Message>,
-    given: List<Name>,
+    actors: Actors,
+    creations: Creations,
+    waiting: Waiting,
     output: List<Text>,
     faults: List<Fault>,
     answers: List<(u64, Value)>,
+    posted: u64,
 }
 
 impl Model for Config {
-    ghost use Rattle.std.specs.Prelude.{map};
-    ghost use Rattle.std.specs.FinSet as fs;
-    ghost use Rattle.sal_source.specs.Table.{table_of};
-    ghost use Rattle.sal_source.specs.Keys.{name_key, message_key};
-    ghost use Rattle.sal_source.specs.Listed.{AreDistinct, IsSorted};
-    ghost use Rattle.sal_source.specs.Configuration.{Configuration, configuration_code, actor_key};
+    ghost use Rattle.sal_source.specs.Table.{keys_of};
+    ghost use Rattle.sal_source.specs.Configuration.{Configuration, configuration_code};
 
     ghost Value = { Configuration };
 
     ghost coded = { configuration_code };
 
     ghost view = { λ c. record {
-      actors = table_of actor_key c.actors;
-      messages = table_of message_key c.messages;
-      given = fs.from_list (map name_key c.given);
+      actors = c.actors;
+      given = keys_of c.actors;
+      creations = c.creations;
+      waiting = c.waiting;
       output = c.output;
       faults = c.faults;
       answers = c.answers;
+      posted = c.posted;
     } };
+}
 
-    ghost invariant = { λ c. IsSorted actor_key c.actors × AreDistinct message_key c.messages };
+/// What a message meets that is to be handled.
+#[derive(Clone, Copy)]
+pub enum Met<'a> {
+    /// The message isn't pending or not ready, or there is no actor for it.
+    Nobody,
+    /// The actor doesn't understand it.
+    NoHandler,
+    /// The message and the actor that handles it, with its next number.
+    Handler(&'a Message, &'a (Actor, u64)),
+}
+
+/// What the handler of an actor makes of a configuration.
+#[derive(Drop)]
+pub struct Change {
+    actor: (Actor, u64),
+    actors: List<Actor>,
+    creations: Creations,
+    waiting: Waiting,
+    answers: List<(u64, Value)>,
+}
+
+fn act_message(
+    alloc: Global,
+    words: Values,
+    behavior: u16,
+    handler: u16,
+) -> Result<Message, NoMemory>
+    ensures { IfOk result (λ m. m ≡ act_message words behavior handler) }
+{
+    let mut args = List::new(alloc);
+    args.push(Piece::Known(Value::Array(words)))?;
+    Ok(Message {
+        maker: Name::Outside(0),
+        serial: 0,
+        target: Target::Actor(Name::Anon(0, 0)),
+        behavior,
+        handler,
+        args,
+        after: List::new(alloc),
+        delay: 0,
+        reply: Reply::Nobody,
+    })
+}
+
+/// The actor with other fields and another next number.
+fn changed(
+    alloc: Global,
+    actor: &(Actor, u64),
+    fields: Values,
+    next: u64,
+) -> Result<(Actor, u64), NoMemory>
+    ensures { IfOk result (λ it. it ≡ (record actor.now.0 { fields = fields }, next)) }
+{
+    let name = actor.0.name.clone_in(alloc)?;
+    let behavior = actor.0.behavior;
+    Ok((
+        Actor {
+            name,
+            behavior,
+            fields,
+        },
+        next,
+    ))
+}
+
+fn is_migrate(message: &Message) -> bool
+    ensures { result ≡ spec.is_migrate message.now }
+{
+    message.behavior == u16::MAX && message.handler == u16::MAX
+}
+
+fn understands(actor: &Actor, message: &Message) -> bool
+    ensures { result ≡ spec.understands actor.now message.now }
+{
+    message.behavior == actor.behavior || is_migrate(message)
+}
+
+fn answered(alloc: Global, answer: Answer, reply: Reply) -> Result<List<(Reply, Value)>, NoMemory>
+    ensures { IfOk result (λ gives. gives ≡ spec.answered answer reply) }
+{
+    let mut gives = List::new(alloc);
+    if let Answer::Value(value) = answer {
+        gives.push((reply, value))?;
+    }
+    Ok(gives)
+}
+
+/// The messages and joins of a handler wait, and its replies are given. The answers that they tell.
+fn enter(
+    alloc: Global,
+    waiting: &mut Waiting,
+    owner: &Name,
+    messages: List<Message>,
+    joins: List<Join>,
+    answer: Answer,
+    reply: Reply,
+) -> Result<List<(u64, Value)>, NoMemory>
+    ensures { IfOk result (λ answers. Enters owner.now messages joins answer reply waiting.old waiting.new answers) }
+{
+    let mut left = answered(alloc, answer, reply)?;
+    waiting.open_all(alloc, owner, joins, &mut left)?;
+    waiting.put_messages(messages)?;
+    let mut answers = List::new(alloc);
+    waiting.settle(alloc, &mut answers, left)?;
+    Ok(answers)
+}
+
+fn target_and_reply(message: Message) -> (Target, Reply)
+    ensures { result ≡ (message.target, message.reply) }
+{
+    let Message { target, reply, .. } = message;
+    (target, reply)
+}
+
+/// What the handler of this actor makes of the creations and of what waits.
+fn changed_by(
+    alloc: Global,
+    actor: &(Actor, u64),
+    reply: Reply,
+    creations: &Creations,
+    waiting: Waiting,
+    effects: Effects,
+) -> Result<Change, NoMemory>
+    ensures { IfOk result (λ change. IsChange effects reply actor.now creations.now waiting change) }
+{
+    let me = &actor.0.name;
+    let mut waiting = waiting;
+    let answers = enter(
+        alloc,
+        &mut waiting,
+        me,
+        effects.messages,
+        effects.joins,
+        effects.answer,
+        reply,
+    )?;
+    let mut creations = creations.copied(alloc)?;
+    creations.put_all(alloc, me, effects.creations)?;
+    Ok(Change {
+        actor: changed(alloc, actor, effects.fields, effects.serial)?,
+        actors: effects.actors,
+        creations,
+        waiting,
+        answers,
+    })
+}
+
+fn is_output(target: &Target) -> bool
+    ensures { result ≡ is_output target.now }
+{
+    match target {
+        Target::Output => true,
+        Target::Actor(_) => false,
+    }
+}
+
+fn bound_actor(alloc: Global, creation: &Creation) -> Result<Actor, NoMemory>
+    ensures { IfOk result (λ a. a ≡ spec.bound_actor creation.now) }
+{
+    Ok(Actor {
+        name: Name::Uan(creation.name.clone_in(alloc)?),
+        behavior: creation.behavior,
+        fields: copies::values(alloc, creation.fields.as_slice())?,
+    })
+}
+
+fn started(
+    alloc: Global,
+    words: Values,
+    behavior: u16,
+    handler: u16,
+    fields: Values,
+) -> Result<Config, NoMemory>
+    ensures { IfOk result (λ c. c ≡ first_of words (began.Actor behavior handler fields)) }
+{
+    let message = act_message(alloc, words, behavior, handler)?;
+    let name = Name::Anon(0, 0);
+    let mut more = List::new(alloc);
+    more.push(Actor {
+        name,
+        behavior,
+        fields,
+    })?;
+    let mut actors = Actors::new(alloc);
+    actors.add_all(more)?;
+    let mut waiting = Waiting::new(alloc);
+    waiting.put_message(message)?;
+    Ok(Config {
+        actors,
+        creations: Creations::new(alloc),
+        waiting,
+        output: List::new(alloc),
+        faults: List::new(alloc),
+        answers: List::new(alloc),
+        posted: 0,
+    })
+}
+
+fn failed(alloc: Global, kind: Trap) -> Result<Config, NoMemory>
+    ensures { IfOk result (λ c. c ≡ first_of [] (began.Trap kind)) }
+{
+    let maker = Name::Outside(0);
+    let mut faults = List::new(alloc);
+    faults.push(Fault {
+        maker,
+        serial: 0,
+        kind: FaultKind::Trap(kind),
+    })?;
+    Ok(Config {
+        actors: Actors::new(alloc),
+        creations: Creations::new(alloc),
+        waiting: Waiting::new(alloc),
+        output: List::new(alloc),
+        faults,
+        answers: List::new(alloc),
+        posted: 0,
+    })
 }
 
 impl Config {
-    /// A configuration with these actors, messages and names given, which has told nothing yet.
-    pub(crate) fn begin(
-        alloc: Global,
-        actors: List<(Actor, u64)>,
-        messages: List<Message>,
-        given: List<Name>,
-    ) -> Config
-        requires sorted { IsSorted actor_key actors }
-        requires distinct { AreDistinct message_key messages }
-        ensures { result ≡ untold actors messages given }
+    /// The first configuration of a program that begins so, with these words.
+    pub fn start(alloc: Global, began: Began, words: Values) -> Result<Config, NoMemory>
+        ensures { IfOk result (λ c. c ≡ first_of words began) }
     {
-        Config {
-            actors,
-            messages,
-            given,
-            output: List::new(alloc),
-            faults: List::new(alloc),
-            answers: List::new(alloc),
+        match began {
+            Began::Actor {
+                behavior,
+                handler,
+                fields,
+            } => started(alloc, words, behavior, handler, fields),
+            Began::Trap(kind) => failed(alloc, kind),
         }
     }
 
@@ -101,122 +318,325 @@ impl Config {
     pub fn actors(&self) -> &List<(Actor, u64)>
         ensures { result.now ≡ fm.values self.now.actors }
     {
-        &self.actors
+        self.actors.items()
     }
 
-    /// How many messages, creations and joins are pending. No handler makes the last two yet.
+    /// How many messages, creations and joins are pending.
     pub fn pending(&self) -> (usize, usize, usize)
-        ensures { result ≡ (fm.len self.now.messages, 0, 0) }
+        ensures { result ≡ (fm.len self.now.waiting.messages, fm.len self.now.creations, fm.len self.now.waiting.joins) }
     {
-        (self.messages.len(), 0, 0)
+        let (messages, joins) = self.waiting.counts();
+        (messages, self.creations.count(), joins)
     }
 
-    fn has_taker(&self, to: &Target) -> bool
-        ensures { result ≡ step.has_taker to.now self.now }
+    /// What the pending message with this maker and number meets.
+    pub fn meets(&self, maker: &Name, serial: u64) -> Met<'_>
+        ensures { Meets maker.now serial self.now result }
     {
-        match to {
-            Target::Output => true,
-            Target::Actor(name) => self.actor(name).is_some(),
+        let Some(message) = self.waiting.message(maker, serial) else {
+            return Met::Nobody;
+        };
+        if !messages::is_ready(message) {
+            return Met::Nobody;
+        }
+        let Target::Actor(name) = &message.target else {
+            return Met::Nobody;
+        };
+        let Some(actor) = self.actors.get(name) else {
+            return Met::Nobody;
+        };
+        if understands(&actor.0, message) {
+            Met::Handler(message, actor)
+        } else {
+            Met::NoHandler
         }
     }
 
-    fn is_possible(&self, message: &Message) -> bool
-        ensures { result ≡ step.is_possible self.now message.now }
+    fn fail(
+        &mut self,
+        alloc: Global,
+        maker: &Name,
+        serial: u64,
+        fresh: &[Name],
+        kind: FaultKind,
+    ) -> Result<bool, NoMemory>
+        ensures { Takes (spec.unnamed fresh.now (spec.add_fault kind maker.now serial (spec.drop_message maker.now serial self.old))) self.old result self.new }
     {
-        messages::is_ready(message) && self.has_taker(&message.target)
-    }
-
-    /// Whether no step is possible, whatever the program.
-    pub fn is_final(&self) -> bool
-        ensures { IsTrue result ↔ step.IsAtEnd self.now }
-    {
-        for message in self.messages.as_slice() {
-            if self.is_possible(message) {
-                return false;
+        match fresh {
+            [_, ..] => Ok(false),
+            [] => {
+                let maker_again = maker.clone_in(alloc)?;
+                self.faults.push(Fault {
+                    maker: maker_again,
+                    serial,
+                    kind,
+                })?;
+                self.waiting.take(maker, serial);
+                Ok(true)
             }
         }
-        true
     }
 
-    /// Takes out the pending message with this maker and number, where it is ready.
-    pub(crate) fn take_ready(&mut self, maker: &Name, serial: u64) -> Option<Message>
-        ensures { Takes maker.now serial self.old result self.new }
-    {
-        messages::take_ready(&mut self.messages, maker, serial)
-    }
-
-    pub(crate) fn put_message(&mut self, message: Message) -> Result<(), NoMemory>
-        ensures { OnOk result (self.new ≡ step.put_message message self.old) }
-    {
-        messages::put(&mut self.messages, message)
-    }
-
-    pub(crate) fn actor(&self, name: &Name) -> Option<&(Actor, u64)>
-        ensures { option_copied result ≡ fm.get self.now.actors (name_key name.now) }
-    {
-        actors::get(&self.actors, name)
-    }
-
-    /// Gives the actor of this name its fields and its next number.
-    pub(crate) fn set_actor(
+    /// The step of a message that its actor doesn't understand.
+    pub fn no_handler(
         &mut self,
         alloc: Global,
-        name: &Name,
-        fields: Values,
-        next: u64,
-    ) -> Result<(), NoMemory>
-        ensures { OnOk result (SetsActor name.now fields next self.old self.new) }
+        maker: &Name,
+        serial: u64,
+        fresh: &[Name],
+    ) -> Result<bool, NoMemory>
+        ensures { Takes (spec.unhandled maker.now serial fresh.now self.old) self.old result self.new }
     {
-        actors::set(alloc, &mut self.actors, name, fields, next)
+        self.fail(alloc, maker, serial, fresh, FaultKind::NoHandler)
     }
 
-    fn resolve(
-        &mut self,
+    fn change(
+        &self,
         alloc: Global,
-        owner: &Name,
-        number: u64,
-        value: &Value,
-    ) -> Result<(), NoMemory>
-        ensures { OnOk result (self.new ≡ giving.resolved owner.now number value.now self.old) }
+        maker: &Name,
+        serial: u64,
+        effects: Effects,
+    ) -> Result<Option<Change>, NoMemory>
+        ensures makes { IfOk result (λ it. Makes maker.now serial effects self.now it) }
+        ensures there { IfOk result (λ it. IfSome it (λ change. fm.contains_key self.now.actors (actor_key change.actor) ≡ true)) }
     {
-        let old = mem::replace(&mut self.messages, List::new(alloc));
-        self.messages = messages::all_resolved(alloc, owner, number, value, old)?;
+        let mut waiting = self.waiting.copied(alloc)?;
+        let Some(message) = waiting.take(maker, serial) else {
+            return Ok(None);
+        };
+        let (target, reply) = target_and_reply(message);
+        let Target::Actor(name) = target else {
+            return Ok(None);
+        };
+        let Some(actor) = self.actors.get(&name) else {
+            return Ok(None);
+        };
+        let change = changed_by(alloc, actor, reply, &self.creations, waiting, effects)?;
+        Ok(Some(change))
+    }
+
+    fn commit(&mut self, change: Change) -> Result<(), NoMemory>
+        requires { fm.contains_key self.old.actors (actor_key change.actor) ≡ true }
+        ensures ok { OnOk result (self.new ≡ committed change self.old) }
+        ensures err { OnErr result (self.new ≡ self.old) }
+    {
+        let Change {
+            actor,
+            actors,
+            creations,
+            waiting,
+            answers,
+        } = change;
+        let told = self.answers.len();
+        self.answers.append(answers)?;
+        if let Err(e) = self.actors.add_all(actors) {
+            self.answers.truncate(told);
+            return Err(e);
+        }
+        self.actors.set(actor);
+        self.creations = creations;
+        self.waiting = waiting;
         Ok(())
     }
 
-    /// Gives the reply to whom it is owed.
-    pub(crate) fn give(
+    fn fits(&self, fresh: &[Name], effects: &Effects) -> bool
+        ensures { result ≡ spec.fits_fresh fresh.now effects.now self.now }
+    {
+        fresh.len() == effects.actors.len() && are_fresh(fresh, &self.actors)
+    }
+
+    fn done(
         &mut self,
         alloc: Global,
-        reply: &Reply,
-        value: &Value,
-    ) -> Result<(), NoMemory>
-        ensures { OnOk result (self.new ≡ giving.give reply.now value.now self.old) }
+        maker: &Name,
+        serial: u64,
+        fresh: &[Name],
+        effects: Effects,
+    ) -> Result<bool, NoMemory>
+        ensures { After maker.now serial fresh.now (Done effects) self.old result self.new }
     {
-        match reply {
-            Reply::Nobody => Ok(()),
-            Reply::Tok(owner, number) => self.resolve(alloc, owner, *number, value),
-            Reply::Place(_, _, _) => Ok(()),
-            Reply::Outside(number) => {
-                let value = value.clone_in(alloc)?;
-                self.answers.push((*number, value))
+        if !self.fits(fresh, &effects) {
+            return Ok(false);
+        }
+        match self.change(alloc, maker, serial, effects)? {
+            Some(change) => {
+                self.commit(change)?;
+                Ok(true)
             }
+            None => Ok(false),
         }
     }
 
-    pub(crate) fn add_fault(&mut self, kind: FaultKind, message: Message) -> Result<(), NoMemory>
-        ensures { OnOk result (self.new ≡ step.add_fault kind message self.old) }
+    fn after(
+        &mut self,
+        alloc: Global,
+        maker: &Name,
+        serial: u64,
+        fresh: &[Name],
+        outcome: Outcome,
+    ) -> Result<bool, NoMemory>
+        ensures { After maker.now serial fresh.now outcome self.old result self.new }
     {
-        self.faults.push(Fault {
-            maker: message.maker,
-            serial: message.serial,
-            kind,
-        })
+        match outcome {
+            Outcome::Done(effects) => self.done(alloc, maker, serial, fresh, effects),
+            Outcome::Trap(kind) => self.fail(alloc, maker, serial, fresh, FaultKind::Trap(kind)),
+        }
     }
 
-    pub(crate) fn add_output(&mut self, text: Text) -> Result<(), NoMemory>
-        ensures { OnOk result (self.new ≡ step.add_output text self.old) }
+    /// The step of a message whose handler has this outcome, with these names for new actors. False
+    /// where the step isn't possible.
+    pub fn handled(
+        &mut self,
+        alloc: Global,
+        maker: &Name,
+        serial: u64,
+        fresh: &[Name],
+        outcome: Outcome,
+    ) -> Result<bool, NoMemory>
+        ensures { Takes (spec.handle_step (λ _. outcome) maker.now serial fresh.now self.old) self.old result self.new }
     {
-        self.output.push(text)
+        match self.meets(maker, serial) {
+            Met::Nobody => Ok(false),
+            Met::NoHandler => self.no_handler(alloc, maker, serial, fresh),
+            Met::Handler(_, _) => self.after(alloc, maker, serial, fresh, outcome),
+        }
+    }
+
+    fn tell(
+        &mut self,
+        text: Text,
+        waiting: Waiting,
+        answers: List<(u64, Value)>,
+    ) -> Result<(), NoMemory>
+        ensures ok { OnOk result (self.new ≡ told text waiting answers self.old) }
+        ensures err { OnErr result (self.new ≡ self.old) }
+    {
+        let told = self.output.len();
+        self.output.push(text)?;
+        if let Err(e) = self.answers.append(answers) {
+            self.output.truncate(told);
+            return Err(e);
+        }
+        self.waiting = waiting;
+        Ok(())
+    }
+
+    fn print_out(
+        &mut self,
+        alloc: Global,
+        waiting: Waiting,
+        message: Message,
+    ) -> Result<(), NoMemory>
+        ensures ok { OnOk result (self.new ≡ printed message waiting self.old) }
+        ensures err { OnErr result (self.new ≡ self.old) }
+    {
+        let text = printing::printed(alloc, &message)?;
+        let (_, reply) = target_and_reply(message);
+        let mut left = List::new(alloc);
+        left.push((reply, Value::Null))?;
+        let mut waiting = waiting;
+        let mut answers = List::new(alloc);
+        waiting.settle(alloc, &mut answers, left)?;
+        self.tell(text, waiting, answers)
+    }
+
+    /// The step of a message to the output. False where the step isn't possible.
+    pub fn print(&mut self, alloc: Global, maker: &Name, serial: u64) -> Result<bool, NoMemory>
+        ensures { Takes (spec.print_step maker.now serial self.old) self.old result self.new }
+    {
+        let mut waiting = self.waiting.copied(alloc)?;
+        let Some(message) = waiting.take(maker, serial) else {
+            return Ok(false);
+        };
+        if !messages::is_ready(&message) || !is_output(&message.target) {
+            return Ok(false);
+        }
+        self.print_out(alloc, waiting, message)?;
+        Ok(true)
+    }
+
+    fn install(
+        &mut self,
+        alloc: Global,
+        actor: Actor,
+        maker: &Name,
+        serial: u64,
+    ) -> Result<(), NoMemory>
+        ensures ok { OnOk result (self.new ≡ bound actor maker.now serial self.old) }
+        ensures err { OnErr result (self.new ≡ self.old) }
+    {
+        let mut actors = List::new(alloc);
+        actors.push(actor)?;
+        self.actors.add_all(actors)?;
+        self.creations.take(maker, serial);
+        Ok(())
+    }
+
+    /// The step of a creation that comes to its name, where these naming services are there. False
+    /// where the step isn't possible.
+    pub fn bind(
+        &mut self,
+        alloc: Global,
+        authorities: &[Authority],
+        maker: &Name,
+        serial: u64,
+    ) -> Result<bool, NoMemory>
+        ensures { Takes (spec.bind_step authorities.now maker.now serial self.old) self.old result self.new }
+    {
+        let Some(creation) = self.creations.get(maker, serial) else {
+            return Ok(false);
+        };
+        if !is_served(authorities, &creation.1.name) {
+            return Ok(false);
+        }
+        let actor = bound_actor(alloc, &creation.1)?;
+        if self.actors.contains(&actor.name) {
+            return Ok(false);
+        }
+        self.install(alloc, actor, maker, serial)?;
+        Ok(true)
+    }
+
+    /// The step of a creation whose name was given. False where the step isn't possible.
+    pub fn refuse(&mut self, alloc: Global, maker: &Name, serial: u64) -> Result<bool, NoMemory>
+        ensures { Takes (spec.refuse_step maker.now serial self.old) self.old result self.new }
+    {
+        let Some(creation) = self.creations.get(maker, serial) else {
+            return Ok(false);
+        };
+        let name = Name::Uan(creation.1.name.clone_in(alloc)?);
+        if !self.actors.contains(&name) {
+            return Ok(false);
+        }
+        let maker_again = maker.clone_in(alloc)?;
+        self.faults.push(Fault {
+            maker: maker_again,
+            serial,
+            kind: FaultKind::NameTaken,
+        })?;
+        self.creations.take(maker, serial);
+        Ok(true)
+    }
+
+    /// A call from outside, where it fits the program. False where the step isn't possible.
+    pub fn post(
+        &mut self,
+        alloc: Global,
+        fits: bool,
+        number: u64,
+        to: &Uan,
+        behavior: u16,
+        handler: u16,
+        args: &[Value],
+    ) -> Result<bool, NoMemory>
+        ensures { Takes (spec.post_step fits number to.now behavior handler args.now self.old) self.old result self.new }
+    {
+        if !fits || !fits_post(self.posted, number, to, behavior, args) {
+            return Ok(false);
+        }
+        let message = post_message(alloc, number, to, behavior, handler, args)?;
+        self.waiting.put_message(message)?;
+        self.posted = number;
+        Ok(true)
     }
 }

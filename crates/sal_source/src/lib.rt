@@ -3,17 +3,26 @@
 
 mod actors;
 mod config;
+mod copies;
+mod creations;
+mod fresh;
 mod handler;
+mod joins;
 mod law;
+mod made;
 mod messages;
 mod player;
+mod posts;
+mod printing;
+mod services;
 mod start;
 mod state;
 mod trace;
 mod turn;
+mod waiting;
 
-pub use config::Config;
-pub use law::chains_of_prints_run;
+pub use config::{Config, Met};
+pub use law::{chains_of_prints_run, replies_commute};
 pub use player::play;
-pub use state::{Outcome, PlayFault, Setup, Step};
+pub use state::{PlayFault, Setup, Step};
 pub use trace::trace_of;

@@ -1,18 +1,38 @@
-use sal_mail::{Effects, Message, Trap};
-use sal_value::{Authority, List, Name, NoMemory, Values};
+use sal_mail::{Message, Trap};
+use sal_value::{Authority, List, Name, NoMemory, Uan, Values};
 use thiserror::Error;
 
-/// A step of a configuration. `fresh` are the names of the actors that the handler makes.
+/// A step of a configuration.
 #[derive(Drop)]
 pub enum Step {
+    /// A message is handled. `fresh` are the names of the actors that its handler makes.
     Handle {
         maker: Name,
         serial: u64,
         fresh: List<Name>,
     },
+    /// A message to the output is printed.
     Print {
         maker: Name,
         serial: u64,
+    },
+    /// A pending creation comes to its name.
+    Bind {
+        maker: Name,
+        serial: u64,
+    },
+    /// A pending creation is refused, since its name was given.
+    Refuse {
+        maker: Name,
+        serial: u64,
+    },
+    /// A call from outside.
+    Post {
+        number: u64,
+        target: Uan,
+        behavior: u16,
+        handler: u16,
+        args: Values,
     },
 }
 
@@ -41,13 +61,6 @@ impl From<NoMemory> for PlayFault {
     fn from(_: NoMemory) -> PlayFault {
         PlayFault::Memory
     }
-}
-
-/// What one handler does.
-#[derive(Drop)]
-pub enum Outcome {
-    Done(Effects),
-    Trap(Trap),
 }
 
 /// What a handler changes while it runs: its actor's next number, and the messages that it sent.

@@ -8,8 +8,9 @@ ghost use Rattle.sal_source.specs.Handler as spec;
 
 use crate::handler::{Reader, block};
 use crate::start::body_at;
-use crate::state::{Outcome, State, Stop};
+use crate::state::{State, Stop};
 use sal_ast::{Program, Stmt};
+use sal_handler::Outcome;
 use sal_mail::{Answer, Effects, Trap};
 use sal_value::{List, Name, NoMemory, Value, Values};
 use std::alloc::Global;

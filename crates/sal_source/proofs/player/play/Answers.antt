@@ -1,9 +1,10 @@
 use Rattle.std.proofs.Common.{rules, ◌≡◌, ◌+◌, take, None, Some, ap, sym, add-one}
+use Rattle.sal_source.specs.Cut.{meaning_of}
 use Rattle.sal_source.specs.Configuration.{first}
 use Rattle.sal_source.specs.Run.{steps, play}
 use Rattle.sal_source.specs.Step.{step}
 use Rattle.sal_source.proofs.Tables.{slice_get_is}
-use Rattle.sal_source.proofs.Played.{did_no, did_yes, played_on, none_whole}
+use Rattle.sal_source.proofs.Played.{took_no, took_yes, played_on, none_whole}
 use Rattle.sal_source.proofs.player.play.Goals as goal
 
 pub loop-i-init : goal.loop-i-init
@@ -13,19 +14,19 @@ loop-i-init c = ap (λ d. Some d) (sym c.in_ok-config.ensures)
 pub returns-then-not-branch : goal.returns-then-not-branch
 returns-then-not-branch c =
     let gone : play c.args.program.now c.args.setup.now (take (c.loop-i.i + 1) c.args.steps.now) ≡ None =
-    played_on c.args.program.now (first c.args.program.now c.args.setup.now) c.loop-i.config c.args.steps.now c.loop-i.i c.index-steps-i.result None
+    played_on (meaning_of c.args.program.now) c.args.setup.now (first (meaning_of c.args.program.now) c.args.setup.now) c.loop-i.config c.args.steps.now c.loop-i.i c.index-steps-i.result None
     (slice_get_is c.args.steps.now c.loop-i.i c.index-steps-i.result c.loop-i-test.true c.index-steps-i.is) c.loop-i.invariant
-    (did_no (step c.args.program.now c.loop-i.config c.index-steps-i.result) c.in_ok-step.field-0 c.step.new.config c.in_ok-step.ensures (search rules)) in
+    (took_no (step (meaning_of c.args.program.now) c.args.setup.now c.loop-i.config c.index-steps-i.result) c.in_ok-step.field-0 c.loop-i.config c.step.new.config c.in_ok-step.ensures (search rules)) in
     record {
       before = c.loop-i.config;
       within = c.loop-i-test.true;
       good = c.loop-i.invariant;
       bad = rw (← add-one) gone;
-      whole = none_whole c.args.program.now (first c.args.program.now c.args.setup.now) c.args.steps.now (c.loop-i.i + 1) gone;
+      whole = none_whole (meaning_of c.args.program.now) c.args.setup.now (first (meaning_of c.args.program.now) c.args.setup.now) c.args.steps.now (c.loop-i.i + 1) gone;
     }
 
 pub loop-i-preserved : goal.loop-i-preserved
 loop-i-preserved c =
-    played_on c.args.program.now (first c.args.program.now c.args.setup.now) c.loop-i.config c.args.steps.now c.loop-i.i c.index-steps-i.result (Some c.step.new.config)
+    played_on (meaning_of c.args.program.now) c.args.setup.now (first (meaning_of c.args.program.now) c.args.setup.now) c.loop-i.config c.args.steps.now c.loop-i.i c.index-steps-i.result (Some c.step.new.config)
     (slice_get_is c.args.steps.now c.loop-i.i c.index-steps-i.result c.loop-i-test.true c.index-steps-i.is) c.loop-i.invariant
-    (did_yes (step c.args.program.now c.loop-i.config c.index-steps-i.result) c.in_ok-step.field-0 c.step.new.config c.in_ok-step.ensures (search rules))
+    (took_yes (step (meaning_of c.args.program.now) c.args.setup.now c.loop-i.config c.index-steps-i.result) c.in_ok-step.field-0 c.loop-i.config c.step.new.config c.in_ok-step.ensures (search rules))

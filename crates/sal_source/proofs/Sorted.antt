@@ -1,0 +1,185 @@
+-- Sorted lists: searching in them, and putting an item in.
+use Rattle.std.proofs.Common.{◌≡◌, ◌⊎◌, inl, inr, ℕ, zero, suc, ◌+◌, ◌<◌, ◌≤◌, Bool, true, false, cond, ◌&&◌, T, List, [], ◌∷◌, map, length, Some, None, refl, sym, ap, subst, ◌∙◌, arith, true≢false, Ordering, Less, Equal, Greater}
+use Rattle.std.specs.Prelude.{slice_get, slice_set, insert, remove}
+use Rattle.std.specs.Ordering.{is_lt, is_eq, ordering_reverse}
+use Rattle.std.proofs.lemmas.Option.{slice_get_past}
+use Rattle.std.proofs.lemmas.Cmp.{nat_list_cmp_total}
+use Rattle.std.specs.Cmp.{tied_itself}
+use Rattle.std.specs.FinMap.Entries as es
+use Rattle.sal_source.specs.Table.{Words, words_cmp, words_eq, write, table_of}
+use Rattle.sal_source.specs.Listed.{found, IsFirst, IsSorted, SplitsAt}
+use Rattle.sal_source.proofs.Tables.{words_tells, words_refl, same_words, same_table, get-write, get-table_of}
+
+some_is : {A : Type 0} {a b : A} → Some a ≡ Some b → a ≡ b
+some_is e = cc
+
+none_some : {A : Type 0} {a : A} → None ≡ Some a → ⊥
+none_some e = absurd (cc)
+
+first : (a b : Bool) → T (a && b) → T a
+first true b p = tt
+first false b p = p
+
+second : (a b : Bool) → T (a && b) → T b
+second true b p = p
+second false b p = absurd p
+
+both : (a b : Bool) → T a → T b → T (a && b)
+both true b p q = q
+both false b p q = p
+
+less : (o : Ordering) → T (is_lt o) → o ≡ Less
+less Less p = refl
+less Equal p = absurd p
+less Greater p = absurd p
+
+lt : (a b : Words) → words_cmp a b ≡ Less → T (is_lt (words_cmp a b))
+lt a b e = subst (λ r. T (is_lt r)) (sym e) tt
+
+flipped : (a b : Words) → words_cmp a b ≡ Greater → words_cmp b a ≡ Less
+flipped a b e = nat_list_cmp_total.antisymm b a ∙ ap ordering_reverse e
+
+-- a key that is less, or greater, is another one
+apart_less : (a b : Words) → words_cmp a b ≡ Less → words_eq b a ≡ false
+apart_less a b e = elim (words_tells b a) [
+  | inl s ↦ absurd (let f : Equal ≡ Less = sym (tied_itself nat_list_cmp_total a) ∙ ap (words_cmp a) (sym s.1) ∙ e in cc)
+  | inr s ↦ s.0
+]
+
+apart_more : (a b : Words) → words_cmp a b ≡ Less → words_eq a b ≡ false
+apart_more a b e = elim (words_tells a b) [
+  | inl s ↦ absurd (let f : Equal ≡ Less = sym (tied_itself nat_list_cmp_total b) ∙ ap (λ x. words_cmp x b) (sym s.1) ∙ e in cc)
+  | inr s ↦ s.0
+]
+
+module _ {X : Type 0} (key : X → Words) where
+  abbrev keyed : List X → List (Words × X)
+  keyed = map (λ x. (key x, x))
+
+  below_get : (k : Words) (xs : List X) (j : ℕ) (y : X) → T (es.below_all words_cmp k (keyed xs)) → slice_get xs j ≡ Some y → words_cmp k (key y) ≡ Less
+  below_get k [] j y h e = absurd (none_some e)
+  below_get k (x ∷ xs) zero y h e = ap (λ z. words_cmp k (key z)) (sym (some_is e)) ∙ less _ (first _ _ h)
+  below_get k (x ∷ xs) (suc j) y h e = below_get k xs j y (second _ _ h) e
+
+  -- the keys rise
+  rising : (xs : List X) (i j : ℕ) (x y : X) → IsSorted key xs → i < j → slice_get xs i ≡ Some x → slice_get xs j ≡ Some y → words_cmp (key x) (key y) ≡ Less
+  rising [] i j x y s lt e f = absurd (none_some e)
+  rising (z ∷ xs) zero zero x y s lt e f = absurd (omega arith)
+  rising (z ∷ xs) zero (suc j) x y s lt e f = ap (λ w. words_cmp (key w) (key y)) (sym (some_is e)) ∙ below_get (key z) xs j y (first _ _ s) f
+  rising (z ∷ xs) (suc i) zero x y s lt e f = absurd (omega arith)
+  rising (z ∷ xs) (suc i) (suc j) x y s lt e f = rising xs i j x y (second _ _ s) (omega arith) e f
+
+  -- ---- a search by halves
+
+  abbrev pub Below : Words → List X → ℕ → Type 0
+  Below q xs low = (i : ℕ) (y : X) → i < low → slice_get xs i ≡ Some y → words_cmp (key y) q ≡ Less
+
+  abbrev pub Above : Words → List X → ℕ → Type 0
+  Above q xs high = (i : ℕ) (y : X) → high ≤ i → slice_get xs i ≡ Some y → words_cmp q (key y) ≡ Less
+
+  pub below_none : (q : Words) (xs : List X) → Below q xs 0
+  below_none q xs i y lt e = absurd (omega arith)
+
+  pub above_none : (q : Words) (xs : List X) (n : ℕ) → n ≡ length xs → Above q xs n
+  above_none q xs n same i y le e = absurd (none_some (sym (slice_get_past xs i (omega arith)) ∙ e))
+
+  pub below_more : (q : Words) (xs : List X) (m : ℕ) (x : X) → IsSorted key xs → slice_get xs m ≡ Some x → words_cmp (key x) q ≡ Less → Below q xs (m + 1)
+  below_more q xs m x s e l i y lt f = either (less_or i m lt)
+    where
+      less_or : (i m : ℕ) → i < m + 1 → (i < m) ⊎ (i ≡ m)
+      less_or zero zero h = inr refl
+      less_or zero (suc m) h = inl (omega arith)
+      less_or (suc i) zero h = absurd (omega arith)
+      less_or (suc i) (suc m) h = elim (less_or i m (omega arith)) [ inl a ↦ inl (omega arith) | inr a ↦ inr (ap suc a) ]
+
+      either : (i < m) ⊎ (i ≡ m) → words_cmp (key y) q ≡ Less
+      either (inl a) = nat_list_cmp_total.trans (key y) (key x) q (rising xs i m y x s a f e) l
+      either (inr a) = ap (λ w. words_cmp (key w) q) (some_is (sym f ∙ ap (slice_get xs) a ∙ e)) ∙ l
+
+  pub above_more : (q : Words) (xs : List X) (m : ℕ) (x : X) → IsSorted key xs → slice_get xs m ≡ Some x → words_cmp (key x) q ≡ Greater → Above q xs m
+  above_more q xs m x s e g i y le f = either (more_or m i le)
+    where
+      more_or : (m i : ℕ) → m ≤ i → (m < i) ⊎ (i ≡ m)
+      more_or zero zero h = inr refl
+      more_or zero (suc i) h = inl (omega arith)
+      more_or (suc m) zero h = absurd (omega arith)
+      more_or (suc m) (suc i) h = elim (more_or m i (omega arith)) [ inl a ↦ inl (omega arith) | inr a ↦ inr (ap suc a) ]
+
+      either : (m < i) ⊎ (i ≡ m) → words_cmp q (key y) ≡ Less
+      either (inl a) = nat_list_cmp_total.trans q (key x) (key y) (flipped (key x) q g) (rising xs m i x y s a e f)
+      either (inr a) = ap (λ w. words_cmp q (key w)) (some_is (sym f ∙ ap (slice_get xs) a ∙ e)) ∙ flipped (key x) q g
+
+  -- where the halves meet
+  pub splits : (q : Words) (xs : List X) (at high : ℕ) → high ≤ at → Below q xs at → Above q xs high → SplitsAt key q xs at
+  splits q [] at high le b a = tt
+  splits q (x ∷ xs) zero high le b a = a 0 x (omega arith) refl
+  splits q (x ∷ xs) (suc at) high le b a = (b 0 x (omega arith) refl, splits q xs at at (omega arith) (λ i y lt e. b (suc i) y (omega arith) e) (λ i y more e. a (suc i) y (omega arith) e))
+
+  -- the item at the key is the first one
+  pub only : (q : Words) (xs : List X) (i : ℕ) (x : X) → IsSorted key xs → slice_get xs i ≡ Some x → words_cmp (key x) q ≡ Equal → IsFirst key q xs i x
+  only q xs i x s e t =
+      let is : key x ≡ q = same_words (key x) q (ap is_eq t) in
+      let P : Words → Type 0 = λ k. IsFirst key k xs i x in
+      subst P is (here xs i s e)
+    where
+      here : (xs : List X) (i : ℕ) → IsSorted key xs → slice_get xs i ≡ Some x → IsFirst key (key x) xs i x
+      here [] i s e = absurd (none_some e)
+      here (z ∷ xs) zero s e = (ap (λ w. words_eq (key x) (key w)) (some_is e) ∙ words_refl (key x), some_is e)
+      here (z ∷ xs) (suc i) s e = (apart_less (key z) (key x) (below_get (key z) xs i x (first _ _ s) e), here xs i (second _ _ s) e)
+
+  -- ---- an item is put in
+
+  below_less : (x y : Words) (xs : List X) → words_cmp x y ≡ Less → T (es.below_all words_cmp y (keyed xs)) → T (es.below_all words_cmp x (keyed xs))
+  below_less x y [] p h = tt
+  below_less x y (z ∷ xs) p h = both _ _ (lt x (key z) (nat_list_cmp_total.trans x y (key z) p (less _ (first _ _ h)))) (below_less x y xs p (second _ _ h))
+
+  below_insert : (k : Words) (xs : List X) (at : ℕ) (a : X) → words_cmp k (key a) ≡ Less → T (es.below_all words_cmp k (keyed xs)) → T (es.below_all words_cmp k (keyed (insert xs at a)))
+  below_insert k [] zero a l h = both _ _ (lt k (key a) l) tt
+  below_insert k [] (suc at) a l h = both _ _ (lt k (key a) l) tt
+  below_insert k (x ∷ xs) zero a l h = both _ _ (lt k (key a) l) h
+  below_insert k (x ∷ xs) (suc at) a l h = both _ _ (first _ _ h) (below_insert k xs at a l (second _ _ h))
+
+  pub sorted_insert : (xs : List X) (at : ℕ) (a : X) → IsSorted key xs → SplitsAt key (key a) xs at → IsSorted key (insert xs at a)
+  sorted_insert [] zero a s p = tt
+  sorted_insert [] (suc at) a s p = tt
+  sorted_insert (x ∷ xs) zero a s p = both _ _ (both _ _ (lt (key a) (key x) p) (below_less (key a) (key x) xs p (first _ _ s))) s
+  sorted_insert (x ∷ xs) (suc at) a s p = both _ _ (below_insert (key x) xs at a p.0 (first _ _ s)) (sorted_insert xs at a (second _ _ s) p.1)
+
+  found_below : (q : Words) (xs : List X) → T (es.below_all words_cmp q (keyed xs)) → found key q xs ≡ None
+  found_below q [] h = refl
+  found_below q (x ∷ xs) h = ap (λ b. cond b (Some x) (found key q xs)) (apart_more q (key x) (less _ (first _ _ h))) ∙ found_below q xs (second _ _ h)
+
+  pub none_at : (q : Words) (xs : List X) (at : ℕ) → IsSorted key xs → SplitsAt key q xs at → found key q xs ≡ None
+  none_at q [] at s p = refl
+  none_at q (x ∷ xs) zero s p = ap (λ b. cond b (Some x) (found key q xs)) (apart_more q (key x) p) ∙ found_below q xs (below_less q (key x) xs p (first _ _ s))
+  none_at q (x ∷ xs) (suc at) s p = ap (λ b. cond b (Some x) (found key q xs)) (apart_less (key x) q p.0) ∙ none_at q xs at (second _ _ s) p.1
+
+  found_insert : (q : Words) (xs : List X) (at : ℕ) (a : X) → SplitsAt key (key a) xs at → found key q (insert xs at a) ≡ cond (words_eq q (key a)) (Some a) (found key q xs)
+  found_insert q [] zero a p = refl
+  found_insert q [] (suc at) a p = refl
+  found_insert q (x ∷ xs) zero a p = refl
+  found_insert q (x ∷ xs) (suc at) a p = ap (cond (words_eq q (key x)) (Some x)) (found_insert q xs at a p.1) ∙ swap (words_eq q (key x)) (words_eq q (key a)) (λ e f. differ e f)
+    where
+      differ : words_eq q (key x) ≡ true → words_eq q (key a) ≡ true → ⊥
+      differ e f = true≢false (sym (words_refl (key a)) ∙ ap (words_eq (key a)) (sym (same_words q (key a) f) ∙ same_words q (key x) e) ∙ apart_less (key x) (key a) p.0)
+
+      swap : (b c : Bool) → (b ≡ true → c ≡ true → ⊥) → cond b (Some x) (cond c (Some a) (found key q xs)) ≡ cond c (Some a) (cond b (Some x) (found key q xs))
+      swap true true h = absurd (h refl refl)
+      swap true false h = refl
+      swap false c h = refl
+
+  pub table_insert : (xs : List X) (at : ℕ) (a : X) → SplitsAt key (key a) xs at → table_of key (insert xs at a) ≡ write (table_of key xs) (key a) (Some a)
+  table_insert xs at a p = same_table _ _ (λ q. get-table_of key (insert xs at a) q ∙ found_insert q xs at a p ∙ ap (cond (words_eq q (key a)) (Some a)) (sym (get-table_of key xs q)) ∙ sym (get-write (table_of key xs) (key a) (Some a) q))
+
+-- ---- what is undone
+
+pub remove_insert : {X : Type 0} (xs : List X) (at : ℕ) (a : X) → at ≤ length xs → remove (insert xs at a) at ≡ xs
+remove_insert [] zero a le = refl
+remove_insert [] (suc at) a le = absurd (omega arith)
+remove_insert (x ∷ xs) zero a le = refl
+remove_insert (x ∷ xs) (suc at) a le = ap (λ l. x ∷ l) (remove_insert xs at a (omega arith))
+
+pub set_back : {X : Type 0} (xs : List X) (at : ℕ) (a b : X) → slice_get xs at ≡ Some b → slice_set (slice_set xs at a) at b ≡ xs
+set_back [] at a b e = absurd (none_some e)
+set_back (x ∷ xs) zero a b e = ap (λ y. y ∷ xs) (sym (some_is e))
+set_back (x ∷ xs) (suc at) a b e = ap (λ l. x ∷ l) (set_back xs at a b e)

@@ -1,0 +1,34 @@
+-- What holds of every configuration, whatever the program.
+use Rattle.std.specs.Prelude.{◌≡◌, ◌≢◌, ℕ, ◌+◌, ◌≤◌, List, [], ◌∷◌, cond}
+use Rattle.sal_mail.specs.declared.message.Reply.{Reply}
+use Rattle.sal_mail.specs.declared.message.Reply.TheVariants.{Nobody}
+use Rattle.sal_source.specs.Table.{Words, words_eq, total, weigh, Same}
+use Rattle.sal_source.specs.Keys.{address}
+use Rattle.sal_source.specs.Configuration.{Waiting, Configuration}
+use Rattle.sal_source.specs.Give.{Given, give}
+
+-- whether the reply is owed to this address, as a number
+abbrev pub owes : Words → Reply → ℕ
+owes a r = cond (words_eq a (address r)) 1 0
+
+-- how often the address is owed: among the replies that are to be given, the pending messages and the open joins
+abbrev pub owed : Words → List Given → Waiting → ℕ
+owed a gs w = total (λ g. owes a g.0) gs + weigh (λ m. owes a m.reply) w.messages + weigh (λ j. owes a j.1.reply) w.joins
+
+-- each address but `Nobody` is owed at most once
+abbrev pub IsOwedOnce : List Given → Waiting → Type 0
+IsOwedOnce gs w = (r : Reply) → r ≢ Nobody → owed (address r) gs w ≤ 1
+
+abbrev pub without_answers : Configuration → Configuration
+without_answers c = record c { answers = [] }
+
+-- One configuration but for the order of its answers.
+pub record IsSameButForOrder (c d : Configuration) : Type 0 where
+  pub rest : without_answers c ≡ without_answers d
+  pub answers : Same c.answers d.answers
+
+-- Two of the replies that are to be given may be given in either order.
+abbrev pub RepliesCommute : Type 0
+RepliesCommute =
+    (g h : Given) (rest : List Given) (c : Configuration) → IsOwedOnce (g ∷ h ∷ rest) c.waiting
+    → IsSameButForOrder (give g.0 g.1 (give h.0 h.1 c)) (give h.0 h.1 (give g.0 g.1 c))

@@ -1,0 +1,96 @@
+//! Pending creations, with their makers.
+
+ghost use Rattle.std.specs.Prelude.{◌≡◌, Some, None, IfOk, OnOk};
+ghost use Rattle.std.specs.Option.{option_copied};
+ghost use Rattle.std.specs.FinMap as fm;
+ghost use Rattle.sal_source.specs.Table.{write};
+ghost use Rattle.sal_source.specs.Keys.{made_key};
+ghost use Rattle.sal_source.specs.Step as step;
+
+use crate::{copies, made};
+use sal_mail::Creation;
+use sal_value::{List, Name, NoMemory};
+use std::alloc::Global;
+use std::marker::Model;
+
+/// The pending creations with their makers.
+#[derive(Drop)]
+pub struct Creations {
+    items: List<(Name, Creation)>,
+}
+
+impl Model for Creations {
+    ghost use Rattle.sal_mail.specs.declared.effects.Creation as spec;
+    ghost use Rattle.sal_value.specs.declared.name.Name as name;
+    ghost use Rattle.sal_source.specs.Table.{Table, table_of};
+    ghost use Rattle.sal_source.specs.Keys.{creation_key};
+    ghost use Rattle.sal_source.specs.Listed.{AreDistinct};
+    ghost use Rattle.sal_source.specs.Configuration.{creations_code};
+
+    ghost Value = { Table (name.Name × spec.Creation) };
+
+    ghost coded = { creations_code };
+
+    ghost view = { λ x. table_of creation_key x.items };
+
+    ghost invariant = { λ x. AreDistinct creation_key x.items };
+}
+
+impl Creations {
+    pub fn new(alloc: Global) -> Creations
+        ensures { result ≡ fm.empty }
+    {
+        Creations {
+            items: List::new(alloc),
+        }
+    }
+
+    pub fn copied(&self, alloc: Global) -> Result<Creations, NoMemory>
+        ensures { IfOk result (λ copy. copy ≡ self.now) }
+    {
+        let items = copies::creations(alloc, self.items.as_slice())?;
+        Ok(Creations { items })
+    }
+
+    pub fn count(&self) -> usize
+        ensures { result ≡ fm.len self.now }
+    {
+        self.items.len()
+    }
+
+    pub fn get(&self, maker: &Name, serial: u64) -> Option<&(Name, Creation)>
+        ensures { option_copied result ≡ fm.get self.now (made_key maker.now serial) }
+    {
+        made::get(&self.items, maker, serial)
+    }
+
+    /// Takes out the creation with this maker and number.
+    pub fn take(&mut self, maker: &Name, serial: u64) -> Option<(Name, Creation)>
+        ensures taken { result ≡ fm.get self.old (made_key maker.now serial) }
+        ensures rest { self.new ≡ write self.old (made_key maker.now serial) None }
+    {
+        made::take(&mut self.items, maker, serial)
+    }
+
+    fn put(&mut self, maker: Name, creation: Creation) -> Result<(), NoMemory>
+        ensures { OnOk result (self.new ≡ step.put_creation maker creation self.old) }
+    {
+        made::put(&mut self.items, (maker, creation))
+    }
+
+    /// Puts the creations of this maker, from the last one on.
+    pub fn put_all(
+        &mut self,
+        alloc: Global,
+        maker: &Name,
+        creations: List<Creation>,
+    ) -> Result<(), NoMemory>
+        ensures { OnOk result (self.new ≡ step.put_creations maker.now creations self.old) }
+    {
+        let mut left = creations;
+        while let Some(creation) = left.pop() {
+            self.put(maker.clone_in(alloc)?, creation)?;
+        }
+        Ok(())
+    }
+}

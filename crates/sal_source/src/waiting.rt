@@ -1,0 +1,237 @@
+//! What waits for replies: pending messages and open joins.
+
+ghost use Rattle.std.specs.Prelude.{◌≡◌, ◌++◌, ◌∷◌, [], Some, None, reverse, IfOk, OnOk, OnErr};
+ghost use Rattle.std.specs.Option.{option_copied};
+ghost use Rattle.std.specs.FinMap as fm;
+ghost use Rattle.sal_mail.specs.declared.message.Reply.TheVariants as reply;
+ghost use Rattle.sal_mail.specs.Message.{is_full};
+ghost use Rattle.sal_source.specs.Table.{write, table_map};
+ghost use Rattle.sal_source.specs.Keys.{made_key};
+ghost use Rattle.sal_source.specs.Give as give;
+ghost use Rattle.sal_source.specs.Step as step;
+ghost use Rattle.sal_source.specs.Changes.{listed, GivesOne, GivesNext, Settles, Opens, OpensAll};
+
+use crate::{copies, joins, made, messages};
+use sal_mail::{Join, Message, Reply};
+use sal_value::{List, Name, NoMemory, Value};
+use std::alloc::Global;
+use std::marker::Model;
+use std::mem;
+
+/// The pending messages, and the open joins with their owners.
+#[derive(Drop)]
+pub struct Waiting {
+    messages: List<Message>,
+    joins: List<(Name, Join)>,
+}
+
+impl Model for Waiting {
+    ghost use Rattle.sal_source.specs.Table.{table_of};
+    ghost use Rattle.sal_source.specs.Keys.{message_key, join_key};
+    ghost use Rattle.sal_source.specs.Listed.{AreDistinct};
+    ghost use Rattle.sal_source.specs.Configuration as configuration;
+
+    ghost Value = { configuration.Waiting };
+
+    ghost coded = { configuration.waiting_code };
+
+    ghost view = { λ w. record { messages = table_of message_key w.messages; joins = table_of join_key w.joins } };
+
+    ghost invariant = { λ w. AreDistinct message_key w.messages × AreDistinct join_key w.joins };
+}
+
+impl Waiting {
+    pub fn new(alloc: Global) -> Waiting
+        ensures { result ≡ record { messages = fm.empty; joins = fm.empty } }
+    {
+        Waiting {
+            messages: List::new(alloc),
+            joins: List::new(alloc),
+        }
+    }
+
+    pub fn copied(&self, alloc: Global) -> Result<Waiting, NoMemory>
+        ensures { IfOk result (λ copy. copy ≡ self.now) }
+    {
+        let messages = copies::messages(alloc, self.messages.as_slice())?;
+        let joins = copies::joins(alloc, self.joins.as_slice())?;
+        Ok(Waiting { messages, joins })
+    }
+
+    /// How many messages and how many joins there are.
+    pub fn counts(&self) -> (usize, usize)
+        ensures { result ≡ (fm.len self.now.messages, fm.len self.now.joins) }
+    {
+        (self.messages.len(), self.joins.len())
+    }
+
+    /// The pending message with this maker and number.
+    pub fn message(&self, maker: &Name, serial: u64) -> Option<&Message>
+        ensures { option_copied result ≡ fm.get self.now.messages (made_key maker.now serial) }
+    {
+        made::get(&self.messages, maker, serial)
+    }
+
+    /// Takes out the pending message with this maker and number.
+    pub fn take(&mut self, maker: &Name, serial: u64) -> Option<Message>
+        ensures taken { result ≡ fm.get self.old.messages (made_key maker.now serial) }
+        ensures rest { self.new ≡ record self.old { messages = write self.old.messages (made_key maker.now serial) None } }
+    {
+        made::take(&mut self.messages, maker, serial)
+    }
+
+    /// Puts the message, without its delay, among the pending ones.
+    pub fn put_message(&mut self, message: Message) -> Result<(), NoMemory>
+        ensures ok { OnOk result (self.new ≡ record self.old { messages = step.put_message message self.old.messages }) }
+        ensures err { OnErr result (self.new ≡ self.old) }
+    {
+        made::put(&mut self.messages, messages::undelayed(message))
+    }
+
+    /// Puts the messages, from the last one on.
+    pub fn put_messages(&mut self, messages: List<Message>) -> Result<(), NoMemory>
+        ensures { OnOk result (self.new ≡ record self.old { messages = step.put_messages messages self.old.messages }) }
+    {
+        let mut left = messages;
+        while let Some(message) = left.pop() {
+            self.put_message(message)?;
+        }
+        Ok(())
+    }
+
+    fn put_join(&mut self, owner: Name, join: Join) -> Result<(), NoMemory>
+        ensures { OnOk result (self.new ≡ record self.old { joins = step.put_join owner join self.old.joins }) }
+    {
+        made::put(&mut self.joins, (owner, join))
+    }
+
+    /// Opens the join, or lists its array where it is full.
+    fn open(
+        &mut self,
+        alloc: Global,
+        owner: &Name,
+        join: Join,
+        left: &mut List<(Reply, Value)>,
+    ) -> Result<(), NoMemory>
+        ensures { OnOk result (Opens owner.now join self.old self.new left.old left.new) }
+    {
+        if joins::is_full(&join) {
+            left.push(joins::collected(alloc, join)?)
+        } else {
+            self.put_join(owner.clone_in(alloc)?, join)
+        }
+    }
+
+    /// Opens the joins, from the last one on, and lists the arrays of those that are full.
+    pub fn open_all(
+        &mut self,
+        alloc: Global,
+        owner: &Name,
+        joins: List<Join>,
+        left: &mut List<(Reply, Value)>,
+    ) -> Result<(), NoMemory>
+        ensures { OnOk result (OpensAll owner.now joins self.old self.new left.old left.new) }
+    {
+        let mut more = joins;
+        while let Some(join) = more.pop() {
+            self.open(alloc, owner, join, left)?;
+        }
+        Ok(())
+    }
+
+    fn resolve(
+        &mut self,
+        alloc: Global,
+        owner: &Name,
+        number: u64,
+        value: &Value,
+    ) -> Result<(), NoMemory>
+        ensures { OnOk result (self.new ≡ record self.old { messages = table_map (give.resolve owner.now number value.now) self.old.messages }) }
+    {
+        let old = mem::replace(&mut self.messages, List::new(alloc));
+        self.messages = messages::all_resolved(alloc, owner, number, value, old)?;
+        Ok(())
+    }
+
+    /// Fills the place of the join, and gives its array where it is full then.
+    fn fill(
+        &mut self,
+        alloc: Global,
+        owner: &Name,
+        number: u64,
+        at: u32,
+        value: Value,
+    ) -> Result<Option<(Reply, Value)>, NoMemory>
+        ensures waiting { OnOk result (self.new ≡ give.give_to (reply.Place owner.now number at) value self.old) }
+        ensures gives { IfOk result (λ more. listed more ≡ give.gives_on (reply.Place owner.now number at) value self.old) }
+    {
+        let Some((owner, join)) = made::take(&mut self.joins, owner, number) else {
+            return Ok(None);
+        };
+        let join = joins::filled(join, at, value);
+        if joins::is_full(&join) {
+            return Ok(Some(joins::collected(alloc, join)?));
+        }
+        self.put_join(owner, join)?;
+        Ok(None)
+    }
+
+    /// Gives one reply, and answers what it gives on.
+    fn give_one(
+        &mut self,
+        alloc: Global,
+        answers: &mut List<(u64, Value)>,
+        reply: Reply,
+        value: Value,
+    ) -> Result<Option<(Reply, Value)>, NoMemory>
+        ensures { IfOk result (λ more. GivesOne (reply, value) self.old self.new answers.old answers.new (listed more)) }
+    {
+        if !value.legal() {
+            return Ok(None);
+        }
+        match reply {
+            Reply::Nobody => Ok(None),
+            Reply::Tok(owner, number) => {
+                self.resolve(alloc, &owner, number, &value)?;
+                Ok(None)
+            }
+            Reply::Place(owner, join, at) => self.fill(alloc, &owner, join, at, value),
+            Reply::Outside(number) => {
+                answers.push((number, value))?;
+                Ok(None)
+            }
+        }
+    }
+
+    fn give_next(
+        &mut self,
+        alloc: Global,
+        answers: &mut List<(u64, Value)>,
+        left: &mut List<(Reply, Value)>,
+        reply: Reply,
+        value: Value,
+    ) -> Result<(), NoMemory>
+        ensures { OnOk result (GivesNext (reply, value) self.old self.new answers.old answers.new left.old left.new) }
+    {
+        match self.give_one(alloc, answers, reply, value)? {
+            Some(more) => left.push(more),
+            None => Ok(()),
+        }
+    }
+
+    /// Gives the replies, from the last one of the list on.
+    pub fn settle(
+        &mut self,
+        alloc: Global,
+        answers: &mut List<(u64, Value)>,
+        replies: List<(Reply, Value)>,
+    ) -> Result<(), NoMemory>
+        ensures { OnOk result (Settles (reverse replies) self.old self.new answers.old answers.new) }
+    {
+        let mut left = replies;
+        while let Some((reply, value)) = left.pop() {
+            self.give_next(alloc, answers, &mut left, reply, value)?;
+        }
+        Ok(())
+    }
+}
