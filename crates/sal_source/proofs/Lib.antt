@@ -1,6 +1,7 @@
 pub mod Adding
 pub mod Commute
 pub mod Counts
+pub mod Ends
 pub mod Evaluations
 pub mod Executions
 pub mod Fuel

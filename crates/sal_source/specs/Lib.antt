@@ -7,6 +7,7 @@ pub mod Configuration
 pub mod Give
 pub mod Posts
 pub mod Step
+pub mod Possible
 pub mod Run
 pub mod Laws
 pub mod Stages

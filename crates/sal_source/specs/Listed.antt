@@ -1,9 +1,10 @@
 -- How lists stand for tables: what the code that keeps a configuration finds in its lists.
-use Rattle.std.specs.Prelude.{◌≡◌, ℕ, zero, suc, true, false, cond, map, List, [], ◌∷◌, Option, Some, None, Result, Ok, Err, T}
+use Rattle.std.specs.Prelude.{◌≡◌, ℕ, zero, suc, Bool, IfSome, true, false, cond, map, List, [], ◌∷◌, Option, Some, None, Result, Ok, Err, T}
+use Rattle.std.specs.FinMap as fm
 use Rattle.std.specs.FinMap.Entries.{is_sorted}
 use Rattle.std.specs.declared.cmp.Ordering.TheVariants.{Less}
 use Rattle.sal_value.specs.declared.name.Name.{Name}
-use Rattle.sal_source.specs.Table.{Words, words_cmp, words_eq}
+use Rattle.sal_source.specs.Table.{Words, Table, words_cmp, words_eq}
 use Rattle.sal_source.specs.Keys.{made_key}
 
 -- the key of what an actor made, by its maker and number
@@ -45,3 +46,8 @@ SplitsAt key q (x ∷ xs) (suc i) = (words_cmp (key x) q ≡ Less) × SplitsAt k
 abbrev pub Searches : {X : Type 0} → (X → Words) → Words → List X → Result ℕ ℕ → Type 0
 Searches {X} key q xs (Ok i) = (y : X) × IsFirst key q xs i y
 Searches key q xs (Err i) = SplitsAt key q xs i
+
+-- whether some value of the table passes; that there is none says so of every key
+abbrev pub AnyOf : {X : Type 0} → (X → Words) → (X → Bool) → Table X → Bool → Type 0
+AnyOf {X} key p t true = (x : X) × ((fm.get t (key x) ≡ Some x) × (p x ≡ true))
+AnyOf key p t false = (q : Words) → IfSome (fm.get t q) (λ x. p x ≡ false)

@@ -1,5 +1,5 @@
 -- One step: which are possible, and what they change.
-use Rattle.std.specs.Prelude.{◌≡◌, ℕ, Bool, true, false, nat_eq, ◌&&◌, ◌||◌, not, is_some, length, List, [], ◌∷◌, ◌++◌, codes, Option, Some, None, if◌then◌else◌}
+use Rattle.std.specs.Prelude.{◌≡◌, ℕ, Bool, true, false, nat_eq, ◌&&◌, ◌||◌, not, length, List, [], ◌∷◌, ◌++◌, codes, Option, Some, None, if◌then◌else◌}
 use Rattle.std.specs.List.{list_all, list_any}
 use Rattle.std.specs.Fmt.{signed_decimal}
 use Rattle.std.specs.Str.{bytes_eq}
@@ -292,20 +292,6 @@ is_post (Refuse maker serial) = false
 -- no step but a post is possible
 abbrev pub IsFinal : Meaning → Setup → Configuration → Type 0
 IsFinal p setup c = (s : Step) → is_post s ≡ false → step p setup c s ≡ None
-
--- ---- whether a step is possible, whatever the program
-
-abbrev pub has_taker : Target → Configuration → Bool
-has_taker target.Output c = true
-has_taker (target.Actor n) c = is_some (fm.get c.actors (name_key n))
-
--- the message is ready, and there is an actor for it, or it goes to the output
-abbrev pub is_possible : Configuration → Message → Bool
-is_possible c m = is_ready m && has_taker m.target c
-
--- its naming service is there, or its name was given
-abbrev pub is_decided : List Authority → Configuration → Creation → Bool
-is_decided authorities c x = is_given x c || is_served authorities x.name
 
 -- no step but a post is possible for any program
 abbrev pub IsAtEnd : Setup → Configuration → Type 0

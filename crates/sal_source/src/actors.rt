@@ -1,18 +1,20 @@
 //! Actors with their next numbers, in a list in the order of their names.
 
-ghost use Rattle.std.specs.Prelude.{◌≡◌, ◌<◌, ◌≤◌, true, is_some, length, Some, None, IfSome, OnOk, OnErr};
+ghost use Rattle.std.specs.Prelude.{◌≡◌, ◌↔◌, IsTrue, ◌<◌, ◌≤◌, true, is_some, length, Some, None, IfSome, OnOk, OnErr};
+ghost use Rattle.std.specs.List.{list_any};
 ghost use Rattle.std.specs.Option.{option_copied};
 ghost use Rattle.std.specs.FinMap as fm;
 ghost use Rattle.std.specs.Ordering.{ordering_reverse};
 ghost use Rattle.sal_value.specs.declared.name.Name.{Name};
-ghost use Rattle.sal_source.specs.Table.{table_of, words_cmp, write};
+ghost use Rattle.sal_value.specs.declared.name.Name.TheVariants as names;
+ghost use Rattle.sal_source.specs.Table.{table_of, words_cmp, words_eq, write};
 ghost use Rattle.sal_source.specs.Keys.{name_key, actor_key};
 ghost use Rattle.sal_source.specs.Listed.{IsSorted, Searches};
 ghost use Rattle.sal_source.specs.Step.{put_actors};
 ghost use Rattle.sal_source.specs.Changes.{IsWithin};
 
 use sal_mail::Actor;
-use sal_value::{List, Name, NoMemory};
+use sal_value::{List, Name, NoMemory, Uan, keys_tell_names};
 use std::alloc::Global;
 use std::cmp::Ordering;
 use std::marker::Model;
@@ -85,6 +87,35 @@ fn add_all(actors: &mut List<(Actor, u64)>, more: List<Actor>) -> Result<(), NoM
     }
 }
 
+fn is_same(a: &Uan, b: &Uan) -> bool
+    ensures { IsTrue result ↔ (a.now ≡ b.now) }
+{
+    a == b
+}
+
+/// Whether the name is this universal one.
+fn is_universal(it: &Name, universal: &Uan) -> bool
+    ensures { result ≡ words_eq (name_key (names.Uan universal.now)) (name_key it.now) }
+{
+    keys_tell_names();
+    match it {
+        Name::Uan(other) => is_same(universal, other),
+        Name::Anon(..) => false,
+        Name::Outside(_) => false,
+    }
+}
+
+fn are_among(actors: &[(Actor, u64)], universal: &Uan) -> bool
+    ensures { result ≡ list_any (λ a. words_eq (name_key (names.Uan universal.now)) (actor_key a)) actors.now }
+{
+    for actor in actors {
+        if is_universal(&actor.0.name, universal) {
+            return true;
+        }
+    }
+    false
+}
+
 /// The actors with their next numbers.
 #[derive(Drop)]
 pub struct Actors {
@@ -138,6 +169,13 @@ impl Actors {
         ensures { result ≡ fm.contains_key self.now (name_key name.now) }
     {
         self.get(name).is_some()
+    }
+
+    /// Whether an actor has this universal name.
+    pub fn has_universal(&self, universal: &Uan) -> bool
+        ensures { result ≡ fm.contains_key self.now (name_key (names.Uan universal.now)) }
+    {
+        are_among(self.items.as_slice(), universal)
     }
 
     /// Adds the actors, each with next number 0. Without memory none is added.

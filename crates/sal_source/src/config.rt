@@ -1,6 +1,6 @@
 //! Configurations, and their steps.
 
-ghost use Rattle.std.specs.Prelude.{◌≡◌, [], true, IfOk, IfSome, OnOk, OnErr};
+ghost use Rattle.std.specs.Prelude.{◌≡◌, ◌↔◌, IsTrue, [], true, IfOk, IfSome, OnOk, OnErr};
 ghost use Rattle.std.specs.Option.{option_copied};
 ghost use Rattle.std.specs.FinMap as fm;
 ghost use Rattle.sal_source.specs.Table.{keys_of, write};
@@ -17,6 +17,7 @@ use crate::creations::Creations;
 use crate::fresh::are_fresh;
 use crate::posts::{fits_post, post_message};
 use crate::services::is_served;
+use crate::state::Setup;
 use crate::waiting::Waiting;
 use crate::{copies, messages, printing};
 use sal_handler::{Began, Outcome};
@@ -327,6 +328,17 @@ impl Config {
     {
         let (messages, joins) = self.waiting.counts();
         (messages, self.creations.count(), joins)
+    }
+
+    /// Whether no step but a post is possible, whatever the program.
+    pub fn is_final(&self, setup: &Setup) -> bool
+        ensures { IsTrue result ↔ spec.IsAtEnd setup.now self.now }
+    {
+        if self.waiting.any_possible(&self.actors) {
+            return false;
+        }
+        let authorities = setup.authorities.as_slice();
+        !self.creations.any_decided(authorities, &self.actors)
     }
 
     /// What the pending message with this maker and number meets.

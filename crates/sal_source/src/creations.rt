@@ -4,14 +4,36 @@ ghost use Rattle.std.specs.Prelude.{◌≡◌, Some, None, IfOk, OnOk};
 ghost use Rattle.std.specs.Option.{option_copied};
 ghost use Rattle.std.specs.FinMap as fm;
 ghost use Rattle.sal_source.specs.Table.{write};
-ghost use Rattle.sal_source.specs.Keys.{made_key};
+ghost use Rattle.sal_source.specs.Keys.{creation_key, made_key};
+ghost use Rattle.sal_source.specs.Listed.{AnyOf};
+ghost use Rattle.sal_source.specs.Possible as possible;
+ghost use Rattle.std.specs.List.{list_any};
 ghost use Rattle.sal_source.specs.Step as step;
 
+use crate::actors::Actors;
+use crate::services::is_served;
 use crate::{copies, made};
 use sal_mail::Creation;
-use sal_value::{List, Name, NoMemory};
+use sal_value::{Authority, List, Name, NoMemory};
 use std::alloc::Global;
 use std::marker::Model;
+
+fn is_decided(it: &(Name, Creation), authorities: &[Authority], actors: &Actors) -> bool
+    ensures { result ≡ possible.is_decided authorities.now actors.now it.now }
+{
+    actors.has_universal(&it.1.name) || is_served(authorities, &it.1.name)
+}
+
+fn some_decided(items: &[(Name, Creation)], authorities: &[Authority], actors: &Actors) -> bool
+    ensures { result ≡ list_any (possible.is_decided authorities.now actors.now) items.now }
+{
+    for item in items {
+        if is_decided(item, authorities, actors) {
+            return true;
+        }
+    }
+    false
+}
 
 /// The pending creations with their makers.
 #[derive(Drop)]
@@ -56,6 +78,13 @@ impl Creations {
         ensures { result ≡ fm.len self.now }
     {
         self.items.len()
+    }
+
+    /// Whether a creation's name was given, or its naming service is among these.
+    pub fn any_decided(&self, authorities: &[Authority], actors: &Actors) -> bool
+        ensures { AnyOf creation_key (possible.is_decided authorities.now actors.now) self.now result }
+    {
+        some_decided(self.items.as_slice(), authorities, actors)
     }
 
     pub fn get(&self, maker: &Name, serial: u64) -> Option<&(Name, Creation)>

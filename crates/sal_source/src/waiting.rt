@@ -6,17 +6,47 @@ ghost use Rattle.std.specs.FinMap as fm;
 ghost use Rattle.sal_mail.specs.declared.message.Reply.TheVariants as reply;
 ghost use Rattle.sal_mail.specs.Message.{is_full};
 ghost use Rattle.sal_source.specs.Table.{write, table_map};
-ghost use Rattle.sal_source.specs.Keys.{made_key};
+ghost use Rattle.sal_source.specs.Keys.{made_key, message_key};
+ghost use Rattle.sal_source.specs.Listed.{AnyOf};
+ghost use Rattle.sal_source.specs.Possible as possible;
+ghost use Rattle.std.specs.List.{list_any};
 ghost use Rattle.sal_source.specs.Give as give;
 ghost use Rattle.sal_source.specs.Step as step;
 ghost use Rattle.sal_source.specs.Changes.{listed, GivesOne, GivesNext, Settles, Opens, OpensAll};
 
+use crate::actors::Actors;
 use crate::{copies, joins, made, messages};
-use sal_mail::{Join, Message, Reply};
+use sal_mail::{Join, Message, Reply, Target};
 use sal_value::{List, Name, NoMemory, Value};
 use std::alloc::Global;
 use std::marker::Model;
 use std::mem;
+
+fn has_taker(to: &Target, actors: &Actors) -> bool
+    ensures { result ≡ possible.has_taker actors.now to.now }
+{
+    match to {
+        Target::Output => true,
+        Target::Actor(name) => actors.contains(name),
+    }
+}
+
+fn is_possible(message: &Message, actors: &Actors) -> bool
+    ensures { result ≡ possible.is_possible actors.now message.now }
+{
+    messages::is_ready(message) && has_taker(&message.target, actors)
+}
+
+fn some_possible(messages: &[Message], actors: &Actors) -> bool
+    ensures { result ≡ list_any (possible.is_possible actors.now) messages.now }
+{
+    for message in messages {
+        if is_possible(message, actors) {
+            return true;
+        }
+    }
+    false
+}
 
 /// The pending messages, and the open joins with their owners.
 #[derive(Drop)]
@@ -63,6 +93,13 @@ impl Waiting {
         ensures { result ≡ (fm.len self.now.messages, fm.len self.now.joins) }
     {
         (self.messages.len(), self.joins.len())
+    }
+
+    /// Whether a message is ready that goes to the output or to one of these actors.
+    pub fn any_possible(&self, actors: &Actors) -> bool
+        ensures { AnyOf message_key (possible.is_possible actors.now) self.now.messages result }
+    {
+        some_possible(self.messages.as_slice(), actors)
     }
 
     /// The pending message with this maker and number.

@@ -1,0 +1,218 @@
+-- When no step but a post is possible.
+use Rattle.std.proofs.Common.{◌≡◌, ℕ, Bool, true, false, cond, ◌&&◌, ◌||◌, not, List, [], ◌∷◌, Option, Some, None, is_some, refl, ap, sym, ◌∙◌, subst, true≢false}
+use Rattle.std.specs.Prelude.{IsTrue, ◌↔◌, IfSome, if◌then◌else◌}
+use Rattle.std.specs.List.{list_any}
+use Rattle.std.specs.FinMap as fm
+use Rattle.std.specs.FinSet as fs
+use Rattle.sal_value.specs.declared.name.Name.{Name}
+use Rattle.sal_value.specs.declared.name.Name.TheVariants as name
+use Rattle.sal_value.specs.declared.name.Uan.{Uan}
+use Rattle.sal_value.specs.Order.{KeysTellNames}
+use Rattle.sal_value.specs.declared.name.Authority.{Authority}
+use Rattle.sal_value.specs.declared.value.Value.TheVariants.{Null}
+use Rattle.sal_mail.specs.declared.message.Message.{Message}
+use Rattle.sal_mail.specs.declared.message.Target.{Target}
+use Rattle.sal_mail.specs.declared.message.Target.TheVariants as target
+use Rattle.sal_mail.specs.declared.effects.Actor.{Actor}
+use Rattle.sal_mail.specs.declared.effects.Creation.{Creation}
+use Rattle.sal_mail.specs.declared.fault.Trap.TheVariants.{ZeroDivisor}
+use Rattle.sal_mail.specs.declared.fault.FaultKind.TheVariants.{NameTaken}
+use Rattle.sal_mail.specs.Message.{is_ready}
+use Rattle.sal_handler.specs.Calls.{Call, Meaning}
+use Rattle.sal_handler.specs.declared.turn.Outcome.{Outcome}
+use Rattle.sal_handler.specs.declared.turn.Outcome.TheVariants as outcome
+use Rattle.sal_handler.specs.declared.turn.Began.TheVariants as began
+use Rattle.sal_source.specs.declared.state.Setup.{Setup}
+use Rattle.sal_source.specs.declared.state.Step.TheVariants as step
+use Rattle.sal_source.specs.Table.{Words, words_eq, Table, table_of, keys_of}
+use Rattle.sal_source.specs.Keys.{name_key, made_key, message_key, creation_key}
+use Rattle.sal_source.specs.Listed.{found, AreDistinct, AnyOf}
+use Rattle.sal_source.specs.Configuration.{Configuration}
+use Rattle.sal_source.specs.Give.{give}
+use Rattle.sal_source.specs.Step as s
+use Rattle.sal_source.specs.Possible.{has_taker, is_possible, is_decided}
+use Rattle.sal_source.proofs.Tables.{words_refl, words_apart, get-table_of}
+use Rattle.sal_source.proofs.Given.{contains_keys}
+use Rattle.sal_source.proofs.Played.{ready}
+use Rattle.sal_source.proofs.Handled.{bind_done, refuse_done}
+
+-- ---- lists and tables
+
+or_first : (a b : Bool) → (a || b) ≡ false → a ≡ false
+or_first true b e = e
+or_first false b e = refl
+
+or_second : (a b : Bool) → (a || b) ≡ false → b ≡ false
+or_second true b e = absurd (true≢false e)
+or_second false b e = e
+
+module _ {X : Type 0} (key : X → Words) (t : X → Bool) where
+  found_at : (q : Words) (x : X) (xs : List X) (b : Bool) → t x ≡ false → IfSome (found key q xs) (λ m. t m ≡ false) → IfSome (cond b (Some x) (found key q xs)) (λ m. t m ≡ false)
+  found_at q x xs true e more = e
+  found_at q x xs false e more = more
+
+  found_false : (q : Words) (xs : List X) → list_any t xs ≡ false → IfSome (found key q xs) (λ m. t m ≡ false)
+  found_false q [] e = tt
+  found_false q (x ∷ xs) e = found_at q x xs (words_eq q (key x)) (or_first (t x) (list_any t xs) e) (found_false q xs (or_second (t x) (list_any t xs) e))
+
+  record Passes (xs : List X) : Type 0 where
+    m : X
+    there : found key (key m) xs ≡ Some m
+    passes : t m ≡ true
+
+  passes_at : (x : X) (xs : List X) (b : Bool) → t x ≡ b → AreDistinct key (x ∷ xs) → (list_any t xs ≡ true → Passes xs) → (b || list_any t xs) ≡ true → Passes (x ∷ xs)
+  passes_at x xs true e d more h = record { m = x; there = ap (λ b. cond b (Some x) (found key (key x) xs)) (words_refl (key x)); passes = e }
+  passes_at x xs false e d more h =
+      let p : Passes xs = more h in
+      record { m = p.m; there = ap (λ b. cond b (Some x) (found key (key p.m) xs)) (words_apart (key p.m) (key x) (λ same. differ p same)) ∙ p.there; passes = p.passes }
+    where
+      differ : (p : Passes xs) → key p.m ≡ key x → ⊥
+      differ p same = absurd (let f : None ≡ Some p.m = sym d.0 ∙ ap (λ k. found key k xs) (sym same) ∙ p.there in cc)
+
+  found_true : (xs : List X) → AreDistinct key xs → list_any t xs ≡ true → Passes xs
+  found_true [] d h = absurd (true≢false (sym h))
+  found_true (x ∷ xs) d h = passes_at x xs (t x) refl d (found_true xs d.1) h
+
+  pub any_of : (xs : List X) (table : Table X) (b : Bool) → AreDistinct key xs → table_of key xs ≡ table → b ≡ list_any t xs → AnyOf key t table b
+  any_of xs table true d e h =
+      let p : Passes xs = found_true xs d (sym h) in
+      (p.m, (ap (λ u. fm.get u (key p.m)) (sym e) ∙ get-table_of key xs (key p.m) ∙ p.there, p.passes))
+  any_of xs table false d e h = λ q. let P : Option X → Type 0 = λ o. IfSome o (λ m. t m ≡ false) in subst P (sym (get-table_of key xs q) ∙ ap (λ u. fm.get u q) e) (found_false q xs (sym h))
+
+  any_is : (xs : List X) (q : Words) → is_some (found key q xs) ≡ list_any (λ x. words_eq q (key x)) xs
+  any_is [] q = refl
+  any_is (x ∷ xs) q = at (words_eq q (key x)) ∙ ap (λ b. words_eq q (key x) || b) (any_is xs q)
+    where
+      at : (b : Bool) → is_some (cond b (Some x) (found key q xs)) ≡ (b || is_some (found key q xs))
+      at true = refl
+      at false = refl
+
+pub has_key : {X : Type 0} (key : X → Words) (xs : List X) (table : Table X) (q : Words) → table_of key xs ≡ table → list_any (λ x. words_eq q (key x)) xs ≡ fm.contains_key table q
+has_key key xs table q e = sym (any_is key (λ x. true) xs q) ∙ ap is_some (sym (get-table_of key xs q)) ∙ ap (λ t. fm.contains_key t q) e
+
+-- ---- no step is possible
+
+module _ (c : Configuration) where
+  no_taker : (outcomes : Call → Outcome) (maker : Name) (serial : ℕ) (fresh : List Name) (m : Message) (to : Target) → m.target ≡ to → has_taker c.actors to ≡ false → s.handle_message outcomes maker serial fresh m c ≡ None
+  no_taker outcomes maker serial fresh m target.Output e f = absurd (true≢false f)
+  no_taker outcomes maker serial fresh m (target.Actor n) e f = rw (e, none (fm.get c.actors (name_key n)) f) refl
+    where
+      none : (o : Option (Actor × ℕ)) → is_some o ≡ false → o ≡ None
+      none None f = refl
+      none (Some a) f = absurd (true≢false f)
+
+  no_output : (maker : Name) (serial : ℕ) (m : Message) (to : Target) → m.target ≡ to → has_taker c.actors to ≡ false → s.print_message maker serial m c ≡ None
+  no_output maker serial m target.Output e f = absurd (true≢false f)
+  no_output maker serial m (target.Actor n) e f = rw e refl
+
+  none_handled : (outcomes : Call → Outcome) (maker : Name) (serial : ℕ) (fresh : List Name) (o : Option Message) → IfSome o (λ m. is_possible c.actors m ≡ false) → s.ready_only o (λ m. s.handle_message outcomes maker serial fresh m c) ≡ None
+  none_handled outcomes maker serial fresh None h = refl
+  none_handled outcomes maker serial fresh (Some m) h = at (is_ready m) refl h
+    where
+      at : (b : Bool) → is_ready m ≡ b → (b && has_taker c.actors m.target) ≡ false → s.ready_only (Some m) (λ m. s.handle_message outcomes maker serial fresh m c) ≡ None
+      at true r e = rw r (no_taker outcomes maker serial fresh m m.target refl e)
+      at false r e = rw r refl
+
+  none_printed : (maker : Name) (serial : ℕ) (o : Option Message) → IfSome o (λ m. is_possible c.actors m ≡ false) → s.ready_only o (λ m. s.print_message maker serial m c) ≡ None
+  none_printed maker serial None h = refl
+  none_printed maker serial (Some m) h = at (is_ready m) refl h
+    where
+      at : (b : Bool) → is_ready m ≡ b → (b && has_taker c.actors m.target) ≡ false → s.ready_only (Some m) (λ m. s.print_message maker serial m c) ≡ None
+      at true r e = rw r (no_output maker serial m m.target refl e)
+      at false r e = rw r refl
+
+  module _ (given : c.given ≡ keys_of c.actors) where
+    given_is : (x : Name × Creation) → s.is_given x.1 c ≡ fm.contains_key c.actors (name_key (name.Uan x.1.name))
+    given_is x = ap (λ g. fs.contains g (name_key (name.Uan x.1.name))) given ∙ contains_keys c.actors (name_key (name.Uan x.1.name))
+
+    none_bound : (authorities : List Authority) (maker : Name) (serial : ℕ) (o : Option (Name × Creation)) → IfSome o (λ x. is_decided authorities c.actors x ≡ false) → s.bind authorities maker serial o c ≡ None
+    none_bound authorities maker serial None h = refl
+    none_bound authorities maker serial (Some x) h =
+        ap (λ b. if b && not (s.is_given x.1 c) then Some (s.bound x.1 (s.drop_creation maker serial c)) else None) (or_second (fm.contains_key c.actors (name_key (name.Uan x.1.name))) _ h)
+
+    none_refused : (authorities : List Authority) (maker : Name) (serial : ℕ) (o : Option (Name × Creation)) → IfSome o (λ x. is_decided authorities c.actors x ≡ false) → s.refuse maker serial o c ≡ None
+    none_refused authorities maker serial None h = refl
+    none_refused authorities maker serial (Some x) h =
+        ap (λ b. if b then Some (s.add_fault NameTaken maker serial (s.drop_creation maker serial c)) else None) (given_is x ∙ or_first (fm.contains_key c.actors (name_key (name.Uan x.1.name))) _ h)
+
+    pub at_end : (setup : Setup) → AnyOf message_key (is_possible c.actors) c.waiting.messages false → AnyOf creation_key (is_decided setup.authorities c.actors) c.creations false → s.IsAtEnd setup c
+    unfolding s.step
+    at_end setup ms xs p (step.Handle maker serial fresh) e = none_handled p.outcome maker serial fresh (fm.get c.waiting.messages (made_key maker serial)) (ms (made_key maker serial))
+    at_end setup ms xs p (step.Print maker serial) e = none_printed maker serial (fm.get c.waiting.messages (made_key maker serial)) (ms (made_key maker serial))
+    at_end setup ms xs p (step.Bind maker serial) e = none_bound setup.authorities maker serial (fm.get c.creations (made_key maker serial)) (xs (made_key maker serial))
+    at_end setup ms xs p (step.Refuse maker serial) e = none_refused setup.authorities maker serial (fm.get c.creations (made_key maker serial)) (xs (made_key maker serial))
+    at_end setup ms xs p (step.Post number to behavior handler args) e = absurd (true≢false e)
+
+  -- ---- some step is possible
+
+  and_first : (a b : Bool) → (a && b) ≡ true → a ≡ true
+  and_first true b e = refl
+  and_first false b e = e
+
+  and_second : (a b : Bool) → (a && b) ≡ true → b ≡ true
+  and_second true b e = e
+  and_second false b e = absurd (true≢false (sym e))
+
+  -- a program whose handlers trap
+  abbrev trapping : Meaning
+  trapping = record { outcome = λ call. outcome.Trap ZeroDivisor; begun = began.Trap ZeroDivisor; fits_call = λ behavior handler args. false; fits_state = λ behavior fields. false }
+
+  some_none : {A : Type 0} (o : Option A) (a : A) → o ≡ Some a → o ≡ None → ⊥
+  some_none o a e f = absurd (let g : Some a ≡ None = sym e ∙ f in cc)
+
+  handled_none : (maker : Name) (serial : ℕ) (m : Message) (a : Actor × ℕ) → s.handled trapping.outcome maker serial [] m a (s.drop_message maker serial c) ≡ None → ⊥
+  handled_none maker serial m a e = at (s.understands a.0 m) e
+    where
+      at : (b : Bool) → (if b then s.after_outcome (outcome.Trap ZeroDivisor) maker serial [] m a.0 (s.drop_message maker serial c) else s.unhandled maker serial [] c) ≡ None → ⊥
+      at true e = absurd (cc)
+      at false e = absurd (cc)
+
+  takes_on : (setup : Setup) (m : Message) (to : Target) → m.target ≡ to → fm.get c.waiting.messages (message_key m) ≡ Some m → is_ready m ≡ true → has_taker c.actors to ≡ true → s.IsAtEnd setup c → ⊥
+  unfolding s.step
+  takes_on setup m target.Output e got r h end =
+      some_none _ (give m.reply Null (s.add_output (s.printed m) (s.drop_message m.maker m.serial c)))
+      (ready (fm.get c.waiting.messages (message_key m)) m (λ m'. s.print_message m.maker m.serial m' c) got r ∙ rw e refl) (end trapping (step.Print m.maker m.serial) refl)
+  takes_on setup m (target.Actor n) e got r h end = there (fm.get c.actors (name_key n)) refl h
+    where
+      there : (o : Option (Actor × ℕ)) → fm.get c.actors (name_key n) ≡ o → is_some o ≡ true → ⊥
+      there None g h = true≢false (sym h)
+      there (Some a) g h =
+          handled_none m.maker m.serial m a
+          (sym (ready (fm.get c.waiting.messages (message_key m)) m (λ m'. s.handle_message trapping.outcome m.maker m.serial [] m' c) got r ∙ rw (e, g) refl) ∙ end trapping (step.Handle m.maker m.serial []) refl)
+
+  pub message_goes : (setup : Setup) → AnyOf message_key (is_possible c.actors) c.waiting.messages true → s.IsAtEnd setup c → ⊥
+  message_goes setup p end = takes_on setup p.0 p.0.target refl p.1.0 (and_first (is_ready p.0) _ p.1.1) (and_second (is_ready p.0) _ p.1.1) end
+
+  module _ (given : c.given ≡ keys_of c.actors) where
+    pub creation_goes : (setup : Setup) → AnyOf creation_key (is_decided setup.authorities c.actors) c.creations true → s.IsAtEnd setup c → ⊥
+    unfolding s.step
+    creation_goes setup p end = at (fm.contains_key c.actors (name_key (name.Uan p.0.1.name))) refl p.1.1
+      where
+        at : (b : Bool) → fm.contains_key c.actors (name_key (name.Uan p.0.1.name)) ≡ b → (b || s.is_served setup.authorities p.0.1.name) ≡ true → ⊥
+        at true g h = some_none _ _ (refuse_done p.0.0 p.0.1.serial c p.0 (sym p.1.0) (given_is given p.0 ∙ g)) (end trapping (step.Refuse p.0.0 p.0.1.serial) refl)
+        at false g h = some_none _ _ (bind_done setup.authorities p.0.0 p.0.1.serial c p.0 (sym p.1.0) h (given_is given p.0 ∙ g)) (end trapping (step.Bind p.0.0 p.0.1.serial) refl)
+
+-- ---- what the code finds
+
+pub same_name_as : (b : Bool) (u other : Uan) (it : Name) → (IsTrue b ↔ (u ≡ other)) → it ≡ name.Uan other → KeysTellNames → b ≡ words_eq (name_key (name.Uan u)) (name_key it)
+same_name_as true u other it h e tell = sym (ap (λ n. words_eq (name_key (name.Uan u)) (name_key n)) (e ∙ ap name.Uan (sym (h.0 refl))) ∙ words_refl (name_key (name.Uan u)))
+same_name_as false u other it h e tell = sym (words_apart (name_key (name.Uan u)) (name_key it) (λ k. true≢false (sym (h.1 (uan_is (tell (name.Uan u) it k ∙ e))))))
+  where
+    uan_is : name.Uan u ≡ name.Uan other → u ≡ other
+    uan_is e = cc
+
+other_name : (u : Uan) (it : Name) → (name.Uan u ≡ it → ⊥) → KeysTellNames → false ≡ words_eq (name_key (name.Uan u)) (name_key it)
+other_name u it n tell = sym (words_apart (name_key (name.Uan u)) (name_key it) (λ k. n (tell (name.Uan u) it k)))
+
+pub not_anonymous : (u : Uan) (it : Name) (theatre number : ℕ) → it ≡ name.Anon theatre number → KeysTellNames → false ≡ words_eq (name_key (name.Uan u)) (name_key it)
+not_anonymous u it theatre number e tell = other_name u it (λ f. absurd (let g : name.Uan u ≡ name.Anon theatre number = f ∙ e in cc)) tell
+
+pub not_outside : (u : Uan) (it : Name) (number : ℕ) → it ≡ name.Outside number → KeysTellNames → false ≡ words_eq (name_key (name.Uan u)) (name_key it)
+not_outside u it number e tell = other_name u it (λ f. absurd (let g : name.Uan u ≡ name.Outside number = f ∙ e in cc)) tell
+
+pub not_final : (c : Configuration) (setup : Setup) → AnyOf message_key (is_possible c.actors) c.waiting.messages true → IsTrue false ↔ s.IsAtEnd setup c
+not_final c setup p = (λ f. absurd (true≢false (sym f)), λ end. absurd (message_goes c setup p end))
+
+pub final_is : (c : Configuration) (setup : Setup) (b : Bool) → c.given ≡ keys_of c.actors → AnyOf message_key (is_possible c.actors) c.waiting.messages false → AnyOf creation_key (is_decided setup.authorities c.actors) c.creations b → IsTrue (not b) ↔ s.IsAtEnd setup c
+final_is c setup true given ms xs = (λ f. absurd (true≢false (sym f)), λ end. absurd (creation_goes c given setup xs end))
+final_is c setup false given ms xs = (λ _. at_end c given setup ms xs, λ _. refl)
