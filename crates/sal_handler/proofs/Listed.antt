@@ -1,5 +1,5 @@
 -- The messages of a list of stages, one after another; and those of a chain of prints.
-use Rattle.std.proofs.Common.{◌≡◌, ℕ, zero, suc, ◌+◌, ◌<◌, ◌≤◌, List, [], ◌∷◌, length, map, get_or, drop, drop-cons, length-drop, add-one, Option, Some, None, Ok, refl, sym, ap, subst, ◌∙◌, arith}
+use Rattle.std.proofs.Common.{◌≡◌, ℕ, zero, suc, Bool, true, false, ◌+◌, ◌<◌, ◌≤◌, List, [], ◌∷◌, length, map, get_or, drop, drop-cons, length-drop, add-one, Option, Some, None, Ok, refl, sym, ap, subst, ◌∙◌, arith, true≢false}
 use Rattle.std.proofs.lemmas.List.{length-map}
 use Rattle.sal_value.specs.declared.name.Name.{Name}
 use Rattle.sal_ast.specs.declared.statement.Stage.{Stage}
@@ -12,14 +12,20 @@ use Rattle.sal_ast.specs.declared.statement.Stage.TheOpen.{Stage-F, Stmt-F}
 use Rattle.sal_ast.specs.declared.statement.Stage.TheVariants as g
 use Rattle.sal_ast.specs.declared.statement.Stmt.TheVariants as t
 use Rattle.sal_handler.specs.Listing.{stages_at, stages_in_body, stages_in, string_at, argument_in, output_handler, listed, message_at, message_in, owed_before, owed_left, messages_in}
-use Rattle.sal_handler.specs.Prints.{Print, Outline, argument_of, stage_of, body_of, program_of, argument_known, print_message, reply_before, chained, print_effects, IsChainOfPrints}
-use Rattle.std.specs.Prelude.{◌≢◌, slice_get}
-use Rattle.std.proofs.lemmas.Bool.{le-ltb, ne_eqb}
+use Rattle.sal_handler.specs.Prints.{Print, Outline, argument_of, stage_of, body_of, program_of, argument_known, print_message, reply_before, chained, print_effects, AreShort, IsChainOfPrints}
+use Rattle.std.specs.Prelude.{◌≢◌, ◌&&◌, nat_eq, nat_lt, slice_get}
+use Rattle.sal_value.specs.declared.name.Ual.{Ual}
+use Rattle.sal_value.specs.Names.{ual_of}
+use Rattle.sal_value.specs.declared.value.Value.{Value}
+use Rattle.sal_value.specs.declared.value.Base.TheVariants as base
+use Rattle.sal_ast.specs.Sorts.{type_sort}
+use Rattle.sal_handler.specs.Fits.{are_of, fits_behavior, is_migrate, fits_call}
+use Rattle.std.proofs.lemmas.Bool.{le-ltb, ltb-false, eq-eqb, ne_eqb}
 use Rattle.sal_ast.specs.declared.program.Program.{Program}
 use Rattle.sal_ast.specs.Members.{handlers_of}
 use Rattle.sal_handler.specs.declared.turn.Outcome.TheVariants as outcome
 use Rattle.sal_handler.specs.Calls.{Call}
-use Rattle.sal_handler.specs.Handler.{unchanged, ran_in, outcome_of, handle}
+use Rattle.sal_handler.specs.Handler.{unchanged, first_text, moved, ran_in, outcome_of, handle}
 use Rattle.sal_handler.proofs.Sending.{sends}
 
 owed_is : (me : Name) (number : ℕ) (xs : List Stage) (left : ℕ) → left ≡ length xs → owed_before me number xs ≡ owed_left me number left
@@ -94,8 +100,57 @@ none_there o c zero zero e no_act = absurd (no_act refl refl)
 none_there o c zero (suc h) e no_act = rw e refl
 none_there o c (suc n) h e no_act = refl
 
+nothing_at : (o : Outline) (c : Call) → c.serial ≤ 18446744073709547520 → c.handler ≢ 65535 → (c.behavior ≡ 0 → c.handler ≡ 0 → ⊥) → outcome.Done (unchanged c) ≡ handle (program_of o) c
+unfolding handle
+nothing_at o c low other no_act = sym (rw (le-ltb 18446744073709547520 c.serial low, ne_eqb c.handler 65535 other) (ap outcome_of (none_there o c c.behavior c.handler refl no_act)))
+
 -- another handler changes nothing
 pub other_is : (p : Program) → IsChainOfPrints p → (c : Call) → c.serial ≤ 18446744073709547520 → c.handler ≢ 65535 → (c.behavior ≡ 0 → c.handler ≡ 0 → ⊥) → outcome.Done (unchanged c) ≡ handle p c
-unfolding handle
-other_is p f c low other no_act =
-    sym (ap (λ q. handle q c) f.is_tree ∙ rw (le-ltb 18446744073709547520 c.serial low, ne_eqb c.handler 65535 other) (ap outcome_of (none_there f.outline c c.behavior c.handler refl no_act)))
+other_is p f c low other no_act = nothing_at f.outline c low other no_act ∙ ap (λ q. handle q c) (sym f.is_tree)
+
+-- ---- calls that fit
+
+fits_other : (o : Outline) (b h : ℕ) (args : List Value) → fits_behavior (slice_get (program_of o).behaviors b) (program_of o).behaviors h args ≡ (nat_eq b 0 && nat_eq h 0) && are_of (Some (record { base = base.Str; dims = 1 }) ∷ []) args
+unfolding handlers_of type_sort
+fits_other o zero zero args = refl
+fits_other o zero (suc h) args = rw (ne_eqb (suc h) 0 (λ e. absurd (omega (arith, e)))) refl
+fits_other o (suc b) h args = rw (ne_eqb (suc b) 0 (λ e. absurd (omega (arith, e)))) refl
+
+-- `act` with words
+pub fits_act : (p : Program) → IsChainOfPrints p → (b h : ℕ) (args : List Value) → is_migrate b h ≡ false → fits_call p b h args ≡ (nat_eq b 0 && nat_eq h 0) && are_of (Some (record { base = base.Str; dims = 1 }) ∷ []) args
+unfolding fits_call
+fits_act p f b h args e = ap (λ q. fits_call q b h args) f.is_tree ∙ rw e (fits_other f.outline b h args)
+
+pub fits_migrate : (p : Program) (b h : ℕ) (args : List Value) → is_migrate b h ≡ true → fits_call p b h args ≡ are_of (Some (record { base = base.Str; dims = 0 }) ∷ []) args
+unfolding fits_call
+fits_migrate p b h args e = rw e refl
+
+-- ---- the names that are given
+
+module _ (o : Outline) (few : length o.prints ≤ 1024) (short : AreShort o.prints) (c : Call) (names : List Name) where
+  abbrev renamed : Call
+  renamed = record c { names = names }
+
+  moved_free : (l : Option Ual) → moved l renamed ≡ moved l c
+  moved_free None = refl
+  moved_free (Some l) = refl
+
+  by_number : (b h : ℕ) → c.behavior ≡ b → c.handler ≡ h → c.serial ≤ 18446744073709547520 → c.handler ≢ 65535 → handle (program_of o) renamed ≡ handle (program_of o) c
+  by_number zero zero e g low other = sends o renamed e g low few short ∙ sym (sends o c e g low few short)
+  by_number zero (suc h) e g low other = let no_act : c.behavior ≡ 0 → c.handler ≡ 0 → ⊥ = λ x y. absurd (omega (arith, g, y)) in sym (nothing_at o renamed low other no_act) ∙ nothing_at o c low other no_act
+  by_number (suc b) h e g low other = let no_act : c.behavior ≡ 0 → c.handler ≡ 0 → ⊥ = λ x y. absurd (omega (arith, e, x)) in sym (nothing_at o renamed low other no_act) ∙ nothing_at o c low other no_act
+
+  at_low : (b : Bool) → nat_eq c.handler 65535 ≡ b → c.serial ≤ 18446744073709547520 → handle (program_of o) renamed ≡ handle (program_of o) c
+  unfolding handle
+  at_low true e low = rw (le-ltb 18446744073709547520 c.serial low, e) (ap outcome_of (moved_free (ual_of (first_text c.args))))
+  at_low false e low = by_number c.behavior c.handler refl refl low (λ x. absurd (true≢false (sym (eq-eqb c.handler 65535 x) ∙ e)))
+
+  at_serial : (b : Bool) → nat_lt 18446744073709547520 c.serial ≡ b → handle (program_of o) renamed ≡ handle (program_of o) c
+  unfolding handle
+  at_serial true e = rw e refl
+  at_serial false e = at_low (nat_eq c.handler 65535) refl (ltb-false 18446744073709547520 c.serial e)
+
+-- no handler of such a program makes an actor
+pub names_are_free : (p : Program) → IsChainOfPrints p → (c : Call) (names : List Name) → handle p (record c { names = names }) ≡ handle p c
+names_are_free p f c names =
+    ap (λ q. handle q (record c { names = names })) f.is_tree ∙ at_serial f.outline f.few f.short c names (nat_lt 18446744073709547520 c.serial) refl ∙ ap (λ q. handle q c) (sym f.is_tree)

@@ -1,17 +1,19 @@
 //! What one handler of a program does that is one chain of prints.
 
-ghost use Rattle.std.specs.Prelude.{◌≡◌, ◌≢◌, ◌+◌, ◌≤◌, None, is_some, length, IfOk};
+ghost use Rattle.std.specs.Prelude.{◌≡◌, ◌≢◌, ◌+◌, ◌≤◌, None, Some, [], ◌∷◌, ◌&&◌, nat_eq, is_some, length, IfOk};
 ghost use Rattle.sal_value.specs.Names.{ual_of};
 ghost use Rattle.sal_handler.specs.Calls.{call};
 ghost use Rattle.sal_handler.specs.Listing as spec;
 ghost use Rattle.sal_handler.specs.Handler.{handle, begin, first_text, migrated, unchanged, outcome_of};
 ghost use Rattle.sal_handler.specs.Values.{text_of};
+ghost use Rattle.sal_value.specs.declared.value.Base.TheVariants.{Str};
+ghost use Rattle.sal_handler.specs.Fits.{is_of, are_of, is_migrate, fits_call};
 ghost use Rattle.sal_handler.specs.Prints.{IsChainOfPrints, waits_for};
 
 use crate::turn::{Began, Outcome, Turn};
 use sal_ast::{Arg, Behavior, Expr, Member, Program, Stage, Stmt};
 use sal_mail::{Answer, Effects, Message, Piece, Reply, Target, Trap};
-use sal_value::{List, Name, NameFault, NoMemory, Ual, Value, Values, names_are_given};
+use sal_value::{Base, List, Name, NameFault, NoMemory, Sort, Ual, Value, Values, names_are_given};
 use std::alloc::Global;
 
 /// The behaviour of the output, and the number of `migrate`.
@@ -45,6 +47,13 @@ fn stages_of(program: &Program) -> &[Stage]
         [behavior] => stages_of_behavior(behavior),
         _ => &[],
     }
+}
+
+/// How many stages the program's chain has.
+pub fn count_prints(program: &Program) -> usize
+    ensures { result ≡ length (spec.stages_in program.now) }
+{
+    stages_of(program).len()
 }
 
 fn argument(alloc: Global, args: &[Arg]) -> Result<List<Piece>, NoMemory>
@@ -265,4 +274,42 @@ pub fn begin_prints(alloc: Global, program: &Program) -> Began
         handler: 0,
         fields: List::new(alloc),
     }
+}
+
+fn is_legal_of(value: &Value, base: Base, dims: u8) -> bool
+    ensures { result ≡ is_of (Some (record { base = base; dims = dims })) value.now }
+{
+    value.legal() && value.belongs(Sort { base, dims })
+}
+
+fn is_one_of(args: &[Value], dims: u8) -> bool
+    ensures { result ≡ are_of (Some (record { base = Str; dims = dims }) ∷ []) args.now }
+{
+    match args {
+        [value] => is_legal_of(value, Base::Str, dims),
+        _ => false,
+    }
+}
+
+fn is_migrate(behavior: u16, handler: u16) -> bool
+    ensures { result ≡ is_migrate behavior handler }
+{
+    behavior == RESERVED && handler == RESERVED
+}
+
+fn is_act(behavior: u16, handler: u16) -> bool
+    ensures { result ≡ nat_eq behavior 0 && nat_eq handler 0 }
+{
+    behavior == 0 && handler == 0
+}
+
+/// Whether a call fits such a program: `act` with words, or `migrate` with a text.
+pub fn fits_prints(program: &Program, behavior: u16, handler: u16, args: &[Value]) -> bool
+    requires form { IsChainOfPrints program.now }
+    ensures { result ≡ fits_call program.now behavior handler args.now }
+{
+    if is_migrate(behavior, handler) {
+        return is_one_of(args, 0);
+    }
+    is_act(behavior, handler) && is_one_of(args, 1)
 }
