@@ -1,9 +1,6 @@
 pub mod Adding
 pub mod Commute
-pub mod Counts
 pub mod Ends
-pub mod Evaluations
-pub mod Executions
 pub mod Fuel
 pub mod Given
 pub mod Handled

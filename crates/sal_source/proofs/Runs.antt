@@ -1,7 +1,7 @@
 -- The run of a chain of prints.
-use Rattle.std.proofs.Common.{◌≡◌, ℕ, ◌+◌, ◌<◌, ◌≤◌, Bool, true, false, List, [], ◌∷◌, ◌++◌, length, map, cond, nat_eq, Option, Some, None, Ok, refl, ap, sym, ◌∙◌, arith, append_assoc, length-append, codes, if◌then◌else◌}
+use Rattle.std.proofs.Common.{◌≡◌, ℕ, ◌+◌, ◌<◌, ◌≤◌, Bool, true, false, List, [], ◌∷◌, ◌++◌, length, map, cond, nat_eq, Option, Some, None, refl, ap, sym, ◌∙◌, arith, append_assoc, codes, if◌then◌else◌}
 use Rattle.std.proofs.lemmas.List.{append-nil, length-map}
-use Rattle.std.proofs.lemmas.Bool.{lt-ltb, le-ltb, eq-eqb, ne_eqb}
+use Rattle.std.proofs.lemmas.Bool.{eq-eqb, ne_eqb}
 use Rattle.std.specs.Prelude.{option_and_then}
 use Rattle.std.specs.List.{list_all}
 use Rattle.std.specs.FinMap as fm
@@ -9,15 +9,10 @@ use Rattle.std.specs.FinSet as fs
 use Rattle.std.specs.Str.{bytes_eq}
 use Rattle.sal_value.specs.declared.name.Name.TheVariants.{Outside}
 use Rattle.sal_value.specs.declared.value.Value.{Value}
-use Rattle.sal_value.specs.declared.value.Value.TheVariants.{Str, Null}
+use Rattle.sal_value.specs.declared.value.Value.TheVariants.{Null}
 use Rattle.sal_mail.specs.declared.message.Message.{Message}
-use Rattle.sal_mail.specs.declared.message.Piece.{Piece}
-use Rattle.sal_mail.specs.declared.message.Piece.TheVariants.{Known}
 use Rattle.sal_mail.specs.declared.effects.Actor.{Actor}
 use Rattle.sal_mail.specs.Message.{known, is_known}
-use Rattle.sal_source.specs.declared.state.State.{State}
-use Rattle.sal_source.specs.declared.state.End.{End}
-use Rattle.sal_source.specs.declared.state.End.TheVariants as end
 use Rattle.sal_source.specs.declared.state.Setup.{Setup}
 use Rattle.sal_source.specs.declared.state.Step.TheVariants as step
 use Rattle.sal_source.specs.Table.{Words, Table, words_eq, write, table_of}
@@ -28,23 +23,22 @@ use Rattle.sal_handler.specs.declared.turn.Outcome.{Outcome}
 use Rattle.sal_handler.specs.declared.turn.Outcome.TheVariants as outcome
 use Rattle.sal_handler.specs.declared.turn.Began.TheVariants as began
 use Rattle.sal_handler.specs.Calls.{Meaning}
-use Rattle.sal_source.specs.Evaluation.{Checked, Reads}
-use Rattle.sal_source.specs.Handler as h
 use Rattle.sal_source.specs.Configuration.{Waiting, Configuration, start_name, start_actor, act_message, first_of}
 use Rattle.sal_mail.specs.declared.message.Reply.TheVariants.{Nobody, Tok}
 use Rattle.sal_source.specs.Give.{resolve, give, give_all, give_to, settled, told_after}
-use Rattle.sal_source.specs.Cut.{begun_of, meaning_of}
 use Rattle.sal_source.specs.Meeting.{CalledBy}
 use Rattle.sal_source.proofs.Played.{ready}
 use Rattle.sal_source.proofs.Handled.{handle_called}
 use Rattle.sal_source.proofs.Legal.{null_legal, given_alone, told_alone}
 use Rattle.sal_source.specs.Step as s
 use Rattle.sal_source.specs.Run.{steps}
-use Rattle.sal_source.specs.Prints.{Print, Outline, argument_of, stage_of, body_of, program_of, string_in, line_of, lines_of, IsShort, AreShort, print_steps, trace, Runs}
-use Rattle.sal_source.specs.Stages.{count_at, body_count, print_count}
-use Rattle.sal_source.proofs.Counts.{count-Chain}
-use Rattle.sal_source.proofs.Evaluations.{eval-Str}
-use Rattle.sal_source.proofs.Executions.{exec-Chain, stage-Message}
+use Rattle.sal_source.specs.Prints.{string_in, line_of, lines_of, print_steps, trace, Runs}
+use Rattle.sal_mail.specs.declared.message.Reply.{Reply}
+use Rattle.sal_handler.specs.Fits.{meaning_of}
+use Rattle.sal_handler.specs.Listing.{stages_in}
+use Rattle.sal_handler.specs.Prints.{Print, Outline, stage_of, program_of, AreShort, argument_known, print_message, reply_before, chained as sent_by, print_effects}
+use Rattle.sal_handler.proofs.Sending.{begins, sends}
+use Rattle.sal_handler.proofs.Listed.{stages_are}
 use Rattle.std.proofs.Common.{true≢false}
 use Rattle.sal_source.specs.Table.{words_cmp}
 use Rattle.sal_mail.specs.declared.effects.Creation.{Creation}
@@ -52,89 +46,28 @@ use Rattle.sal_value.specs.declared.name.Name.{Name}
 use Rattle.sal_source.proofs.Tables.{words_refl, same_words, words_apart, same_table, get-write, get-table_of, table-each}
 use Rattle.sal_source.proofs.Waits.{resolve_keeps}
 
--- ---- the messages of the chain
-
-known_args : Option (List ℕ × ℕ) → List Piece
-known_args None = []
-known_args (Some text) = Known (Str text.0) ∷ []
-
-abbrev end_after : List Print → End
-end_after [] = end.Nobody
-end_after (p ∷ ps) = end.Token
-
-abbrev sent : Option ℕ → ℕ → Print → End → Message
-sent before number p last = h.print_message start_name p.handler.text (known_args p.text) before last number
-
-abbrev chained : Option ℕ → ℕ → List Print → List Message
-chained before number [] = []
-chained before number (p ∷ ps) = sent before number p (end_after ps) ∷ chained (Some number) (number + 1) ps
-
-abbrev reader : Reads
-reader = record { me = start_name }
-
 -- ---- what the handler does
 
-pieces_are : (text : Option (List ℕ × ℕ)) (before : Option ℕ) (w : State) → IsShort text → h.pieces (argument_of text) before [] w ≡ Ok (known_args text, w)
-unfolding known_args
-pieces_are None before w short = refl
-pieces_are (Some text) before w short =
-    rw (eval-Str text.0 text.1 w, le-ltb 4096 (length text.0) short) refl
+-- the message of a stage of the start actor, which owes its reply so
+abbrev sent : Option ℕ → ℕ → Print → Reply → Message
+sent = print_message start_name
 
-abbrev after_one : Option ℕ → Print → End → State → State
-after_one before p last w = record w { serial = w.serial + 1; messages = w.messages ++ sent before w.serial p last ∷ [] }
+-- to whom a stage owes its reply that has these stages behind it
+abbrev owed_to : ℕ → List Print → Reply
+owed_to = reply_before start_name
 
-message_is : (p : Print) (before : Option ℕ) (last : End) (w : State) → IsShort p.text → length w.messages < 1024 → w.serial < 18446744073709551615 →
-    h.stage (stage_of p) reader before last w ≡ Ok (w.serial, after_one before p last w)
-unfolding h.message
-message_is p before last w short few low =
-    stage-Message _ reader before last w
-    ∙ rw (pieces_are p.text before w short, lt-ltb (length w.messages) 1024 few, lt-ltb w.serial 18446744073709551615 low) refl
-
-end_is : (ps : List Print) → h.end_of (map h.stage (map stage_of ps)) end.Nobody ≡ end_after ps
-end_is [] = refl
-end_is (p ∷ ps) = refl
-
-abbrev after_all : Option ℕ → List Print → State → State
-after_all before ps w = record { serial = w.serial + length ps; messages = w.messages ++ chained before w.serial ps }
-
-abbrev state : ℕ → List Message → State
-state serial messages = record { serial = serial; messages = messages }
-
-states : (a b : ℕ) (xs ys : List Message) → a ≡ b → xs ≡ ys → ◌≡◌ {A = Checked (Unit {0} × State)} (Ok (tt, state a xs)) (Ok (tt, state b ys))
-states a b xs ys e f = cc
-
-chain_is : (ps : List Print) (before : Option ℕ) (w : State) → AreShort ps → length w.messages + length ps ≤ 1024 → w.serial + length ps ≤ 2048 →
-    h.chain (map h.stage (map stage_of ps)) reader before end.Nobody w ≡ Ok (tt, after_all before ps w)
-chain_is [] before w short few low = states w.serial (w.serial + 0) w.messages (w.messages ++ []) (omega arith) (sym (append-nil w.messages))
-chain_is (p ∷ ps) before w short few low =
-    let m : Message = sent before w.serial p (end_after ps) in
-    let one = message_is p before (end_after ps) w short.0 (omega arith) (omega arith) in
-    let more = chain_is ps (Some w.serial) (after_one before p (end_after ps) w) short.1 (omega (arith, length-append w.messages (m ∷ []))) (omega arith) in
-    rw (end_is ps, one) (more ∙ states ((w.serial + 1) + length ps) (w.serial + length (p ∷ ps)) ((w.messages ++ m ∷ []) ++ chained (Some w.serial) (w.serial + 1) ps) (w.messages ++ (m ∷ chained (Some w.serial) (w.serial + 1) ps)) (omega arith) (append_assoc w.messages (m ∷ []) (chained (Some w.serial) (w.serial + 1) ps)))
-
--- the body of `act`
-body_is : (ps : List Print) → AreShort ps → length ps ≤ 1024 → h.block (body_of ps) reader (state 0 []) ≡ Ok (tt, state (length ps) (chained None 0 ps))
-body_is [] short few = refl
-body_is (p ∷ ps) short few =
-    let c = chain_is (p ∷ ps) None (state 0 []) short (omega arith) (omega arith) in
-    rw (exec-Chain (record { stages = map stage_of (p ∷ ps) }) None reader (state 0 []), c) (states (0 + length (p ∷ ps)) (length (p ∷ ps)) ([] ++ chained None 0 (p ∷ ps)) (chained None 0 (p ∷ ps)) (omega arith) refl)
-
--- ---- the start
-
-start_is : (o : Outline) → h.start_of (program_of o) ≡ Some (0, 0)
-unfolding h.start_of
-start_is o = refl
-
-abbrev effects_of : List Print → Effects
-effects_of ps = h.effects [] (state (length ps) (chained None 0 ps))
+abbrev chained : Option ℕ → ℕ → List Print → List Message
+chained = sent_by start_name
 
 abbrev meaning : Outline → Meaning
 meaning o = meaning_of (program_of o)
 
+abbrev effects_of : Message → List Print → Effects
+effects_of m ps = print_effects (s.call_of m (start_actor 0 []) []) ps
+
 handle_is : (o : Outline) (m : Message) → m.handler ≡ 0 → AreShort o.prints → length o.prints ≤ 1024 →
-    (meaning o).outcome (s.call_of m (start_actor 0 []) []) ≡ outcome.Done (effects_of o.prints)
-unfolding h.handle
-handle_is o m e short few = rw (e, body_is o.prints short few) refl
+    (meaning o).outcome (s.call_of m (start_actor 0 []) []) ≡ outcome.Done (effects_of m o.prints)
+handle_is o m e short few = sends o (s.call_of m (start_actor 0 []) []) refl e (omega arith) few short
 
 -- ---- tables of one more message
 
@@ -153,7 +86,7 @@ module _ {X : Type 0} (key : X → Words) where
 
 filled : (before : Option ℕ) (number : ℕ) (ps : List Print) (t : Table Message) → t ≡ table_of message_key [] → s.put_messages (chained before number ps) t ≡ table_of message_key (chained before number ps)
 filled before number [] t e = e
-filled before number (p ∷ ps) t e = ap (s.put_message (sent before number p (end_after ps))) (filled (Some number) (number + 1) ps t e)
+filled before number (p ∷ ps) t e = ap (s.put_message (sent before number p (owed_to number ps))) (filled (Some number) (number + 1) ps t e)
 
 abbrev acted : ℕ → Table (Actor × ℕ)
 acted n = write (table_of actor_key (start_actor 0 [] ∷ [])) (name_key start_name) (Some ((start_actor 0 []).0, n))
@@ -194,15 +127,15 @@ gave_nobody c =
     λ i. record c { waiting = w i; answers = t i }
 
 acts : (o : Outline) (setup : Setup) (words : List Value) → AreShort o.prints → length o.prints ≤ 1024 →
-    s.step (meaning o) setup (begun words) (step.Handle (Outside 0) 0 []) ≡ Some (at (length o.prints) 0 o.prints [])
+    s.step (meaning o) setup (begun words) (step.Handle (Outside 0) 0 []) ≡ Some (at (0 + length o.prints) 0 o.prints [])
 unfolding s.step
 acts o setup words short few =
     let dropped : Configuration = s.drop_message (Outside 0) 0 (begun words) in
-    let e : Effects = effects_of o.prints in
+    let e : Effects = effects_of (act words) o.prints in
     handle_called (meaning o).outcome (Outside 0) 0 [] (begun words) (act words) (start_actor 0 []) (called words)
     ∙ ap (λ (x : Outcome). s.after_outcome x (Outside 0) 0 [] (act words) (start_actor 0 []).0 dropped) (handle_is o (act words) refl short few)
     ∙ ap Some (gave_nobody (s.installed e (start_actor 0 []).0 dropped))
-    ∙ ap (λ (t : Table Message). Some (record (at (length o.prints) 0 [] []) { waiting = record { messages = t; joins = fm.empty } })) (filled None 0 o.prints _ (drop_head message_key (act words) [] refl))
+    ∙ ap (λ (t : Table Message). Some (record (at (0 + length o.prints) 0 [] []) { waiting = record { messages = t; joins = fm.empty } })) (filled None 0 o.prints _ (drop_head message_key (act words) [] refl))
 
 -- ---- a stage is printed
 
@@ -215,17 +148,16 @@ later k number before (p ∷ ps) lt =
     differ : made_key start_name k ≡ made_key start_name number → ⊥
     differ e = let f : k ≡ number = cc in absurd (omega arith)
 
-known_stay : (number : ℕ) (text : Option (List ℕ × ℕ)) → map (known number Null) (known_args text) ≡ known_args text
-unfolding known_args
+known_stay : (number : ℕ) (text : Option (List ℕ × ℕ)) → map (known number Null) (argument_known text) ≡ argument_known text
 known_stay number None = refl
 known_stay number (Some text) = refl
 
-stays : (number b k : ℕ) (p : Print) (last : End) → number < b → resolve start_name number Null (sent (Some b) k p last) ≡ sent (Some b) k p last
+stays : (number b k : ℕ) (p : Print) (last : Reply) → number < b → resolve start_name number Null (sent (Some b) k p last) ≡ sent (Some b) k p last
 stays number b k p last lt = rw (words_refl (name_key start_name), known_stay number p.text, ne_eqb b number (λ e. absurd (omega arith))) refl
 
 stay : (number b k : ℕ) (ps : List Print) → number < b → b < k → map (resolve start_name number Null) (chained (Some b) k ps) ≡ chained (Some b) k ps
 stay number b k [] lt more = refl
-stay number b k (p ∷ ps) lt more = rw (stays number b k p (end_after ps) lt, stay number k (k + 1) ps (omega arith) (omega arith)) refl
+stay number b k (p ∷ ps) lt more = rw (stays number b k p (owed_to k ps) lt, stay number k (k + 1) ps (omega arith) (omega arith)) refl
 
 -- the next stage waits no more
 released : (number : ℕ) (ps : List Print) → map (resolve start_name number Null) (chained (Some number) (number + 1) ps) ≡ chained None (number + 1) ps
@@ -233,17 +165,15 @@ released number [] = refl
 released number (p ∷ ps) =
     rw (words_refl (name_key start_name), known_stay number p.text, eq-eqb number number refl, stay number (number + 1) ((number + 1) + 1) ps (omega arith) (omega arith)) refl
 
-args_known : (text : Option (List ℕ × ℕ)) → list_all is_known (known_args text) ≡ true
-unfolding known_args
+args_known : (text : Option (List ℕ × ℕ)) → list_all is_known (argument_known text) ≡ true
 args_known None = refl
 args_known (Some text) = refl
 
-text_is : (text : Option (List ℕ × ℕ)) → s.argument_text (known_args text) ≡ string_in text
-unfolding known_args
+text_is : (text : Option (List ℕ × ℕ)) → s.argument_text (argument_known text) ≡ string_in text
 text_is None = refl
 text_is (Some text) = refl
 
-printed_is : (p : Print) (before : Option ℕ) (number : ℕ) (last : End) → s.printed (sent before number p last) ≡ line_of p
+printed_is : (p : Print) (before : Option ℕ) (number : ℕ) (last : Reply) → s.printed (sent before number p last) ≡ line_of p
 printed_is p before number last = rw (text_is p.text) (by_name (bytes_eq p.handler.text (codes "println")))
   where
     by_name : (b : Bool) → (if nat_eq (if b then 1 else 0) 1 then string_in p.text ++ 10 ∷ [] else string_in p.text) ≡ (if b then string_in p.text ++ 10 ∷ [] else string_in p.text)
@@ -261,7 +191,7 @@ gave_token number c =
     let t : c.answers ++ told_after ((Tok start_name number, Null) ∷ []) c.waiting ≡ c.answers = ap (λ l. c.answers ++ l) (told_alone (Tok start_name number) Null c.waiting null_legal refl) ∙ append-nil c.answers in
     λ i. record c { waiting = w i; answers = t i }
 
-given_one : (n number : ℕ) (ps : List Print) (output : List (List ℕ)) → give (h.owed (end_after ps) start_name number) Null (told_one n number ps output) ≡ at n (number + 1) ps output
+given_one : (n number : ℕ) (ps : List Print) (output : List (List ℕ)) → give (owed_to number ps) Null (told_one n number ps output) ≡ at n (number + 1) ps output
 given_one n number [] output = gave_nobody (told_one n number [] output)
 given_one n number (p ∷ ps) output =
     gave_token number (told_one n number (p ∷ ps) output)
@@ -272,11 +202,11 @@ prints_one : (o : Outline) (setup : Setup) (n number : ℕ) (p : Print) (ps : Li
     s.step (meaning o) setup (at n number (p ∷ ps) output) (step.Print start_name number) ≡ Some (at n (number + 1) ps (output ++ line_of p ∷ []))
 unfolding s.step
 prints_one o setup n number p ps output =
-    let m : Message = sent None number p (end_after ps) in
+    let m : Message = sent None number p (owed_to number ps) in
     let c : Configuration = at n number (p ∷ ps) output in
     ready (s.pending start_name number c) m (λ m. s.print_message start_name number m c) (get_head message_key m (chained (Some number) (number + 1) ps)) (rw (args_known p.text) refl)
     ∙ ap (λ (t : Table Message). Some (give m.reply Null (record c { waiting = record { messages = t; joins = fm.empty }; output = output ++ s.printed m ∷ [] }))) (drop_head message_key m (chained (Some number) (number + 1) ps) (later number (number + 1) (Some number) ps (omega arith)))
-    ∙ ap (λ text. Some (give m.reply Null (told_one n number ps (output ++ text ∷ [])))) (printed_is p None number (end_after ps))
+    ∙ ap (λ text. Some (give m.reply Null (told_one n number ps (output ++ text ∷ [])))) (printed_is p None number (owed_to number ps))
     ∙ ap (λ d. Some d) (given_one n number ps (output ++ line_of p ∷ []))
 
 prints_all : (o : Outline) (setup : Setup) (n number : ℕ) (ps : List Print) (output : List (List ℕ)) → steps (meaning o) setup (at n number ps output) (print_steps number (length ps)) ≡ Some (at n (number + length ps) [] (output ++ lines_of ps))
@@ -304,24 +234,20 @@ no_step o setup n number output (step.Bind maker serial) e = rw (no_creation (ma
 no_step o setup n number output (step.Refuse maker serial) e = rw (no_creation (made_key maker serial)) refl
 no_step o setup n number output (step.Post k to behavior handler args) e = absurd (true≢false e)
 
-counted : (o : Outline) → print_count (program_of o) ≡ length o.prints
-counted o = ap (count_at (program_of o)) (start_is o) ∙ counted_body o.prints
-  where
-    counted_body : (ps : List Print) → body_count (Some (body_of ps)) ≡ length ps
-    counted_body [] = refl
-    counted_body (p ∷ ps) = count-Chain (record { stages = map stage_of (p ∷ ps) }) None ∙ length-map (p ∷ ps) stage_of
+counted : (o : Outline) → length (stages_in (program_of o)) ≡ length o.prints
+counted o = ap length (stages_are o) ∙ length-map o.prints stage_of
 
 pub runs : (o : Outline) (setup : Setup) → length o.prints ≤ 1024 → AreShort o.prints → Runs o setup
 unfolding steps
 runs o setup few short = record {
   count = counted o;
-  end = at (length o.prints) (0 + length o.prints) [] (lines_of o.prints);
+  end = at (0 + length o.prints) (0 + length o.prints) [] (lines_of o.prints);
   is_run =
-      ap (λ f. steps (meaning o) setup (first_of setup.words (begun_of f)) (trace (length o.prints))) (start_is o)
+      ap (λ b. steps (meaning o) setup (first_of setup.words b) (trace (length o.prints))) (begins o)
       ∙ ap (option_and_then (λ d. steps (meaning o) setup d (print_steps 0 (length o.prints)))) (acts o setup setup.words short few)
-      ∙ prints_all o setup (length o.prints) 0 o.prints [];
+      ∙ prints_all o setup (0 + length o.prints) 0 o.prints [];
   output = refl;
   faults = refl;
   answers = refl;
-  final = no_step o setup (length o.prints) (0 + length o.prints) (lines_of o.prints);
+  final = no_step o setup (0 + length o.prints) (0 + length o.prints) (lines_of o.prints);
 }

@@ -1,8 +1,5 @@
 pub mod Table
 pub mod Keys
-pub mod Evaluation
-pub mod Handler
-pub mod Cut
 pub mod Configuration
 pub mod Give
 pub mod Posts
@@ -10,9 +7,7 @@ pub mod Step
 pub mod Possible
 pub mod Run
 pub mod Laws
-pub mod Stages
 pub mod Prints
 pub mod Listed
 pub mod Changes
 pub mod Meeting
-pub mod Reading

@@ -8,7 +8,7 @@ use Rattle.sal_source.specs.declared.state.PlayFault.{PlayFault}
 use Rattle.sal_source.specs.declared.state.PlayFault.TheVariants.{BadStep, Memory}
 use Rattle.sal_source.specs.Configuration.{Configuration, first}
 use Rattle.sal_source.specs.Step.{step}
-use Rattle.sal_source.specs.Cut.{meaning_of}
+use Rattle.sal_handler.specs.Fits.{meaning_of}
 
 -- the configuration after these steps, or none at the first step that isn't possible
 unfoldable pub steps : Meaning → Setup → Configuration → List Step → Option Configuration

@@ -6,7 +6,6 @@ mod config;
 mod copies;
 mod creations;
 mod fresh;
-mod handler;
 mod joins;
 mod law;
 mod made;
@@ -15,10 +14,8 @@ mod player;
 mod posts;
 mod printing;
 mod services;
-mod start;
 mod state;
 mod trace;
-mod turn;
 mod waiting;
 
 pub use config::{Config, Met};

@@ -1,4 +1,3 @@
-use sal_mail::{Message, Trap};
 use sal_value::{Authority, List, Name, NoMemory, Uan, Values};
 use thiserror::Error;
 
@@ -60,38 +59,5 @@ impl From<NoMemory> for PlayFault {
 
     fn from(_: NoMemory) -> PlayFault {
         PlayFault::Memory
-    }
-}
-
-/// What a handler changes while it runs: its actor's next number, and the messages that it sent.
-#[derive(Drop)]
-pub struct State {
-    pub serial: u64,
-    pub messages: List<Message>,
-}
-
-/// To whom the last stage of a chain owes its reply.
-#[derive(Clone, Copy, Debug, PartialEq, Eq)]
-pub enum End {
-    Nobody,
-    /// To the stage's own token.
-    Token,
-}
-
-/// Why a handler stopped.
-#[derive(Clone, Copy, Debug, PartialEq, Eq)]
-pub enum Stop {
-    Trap(Trap),
-    NoMemory,
-}
-
-impl From<NoMemory> for Stop {
-    ghost use Rattle.std.specs.Prelude.{◌≡◌};
-    ghost use Rattle.sal_source.specs.declared.state.Stop.TheVariants.{NoMemory};
-
-    ghost from_gives = { λ _ e. e ≡ NoMemory };
-
-    fn from(_: NoMemory) -> Stop {
-        Stop::NoMemory
     }
 }

@@ -1,5 +1,5 @@
 use Rattle.std.proofs.Common.{rules, ◌≡◌, ◌+◌, take, None, Some, ap, sym, add-one}
-use Rattle.sal_source.specs.Cut.{meaning_of}
+use Rattle.sal_handler.specs.Fits.{meaning_of}
 use Rattle.sal_source.specs.Configuration.{first}
 use Rattle.sal_source.specs.Run.{steps, play}
 use Rattle.sal_source.specs.Step.{step}

@@ -11,7 +11,7 @@ next n count lt = let e : count - n ≡ suc (count - (n + 1)) = omega arith in a
 pub loop-number-preserved : goal.loop-number-preserved
 loop-number-preserved c =
     let n : ℕ = c.loop-number.number in
-    let count : ℕ = c.print_count-count.result in
+    let count : ℕ = c.count_prints-count.result in
     ap (λ (l : List Step). l ++ print_steps (n + 1) (count - (n + 1))) c.in_ok-push-2.ensures.ok
     ∙ append_assoc c.loop-number.steps (step.Print (Anon 0 0) n ∷ []) (print_steps (n + 1) (count - (n + 1)))
     ∙ ap (λ (l : List Step). c.loop-number.steps ++ l) (sym (next n count c.loop-number-test.true))
