@@ -15,6 +15,8 @@ mod posts;
 mod printing;
 mod services;
 mod state;
+#[cfg(test)]
+mod tests;
 mod trace;
 mod waiting;
 
