@@ -1,6 +1,7 @@
 mod Bodies
 mod Chains
 mod Heads
+mod InMemory
 mod Names
 mod Pieces
 mod Stages

@@ -7,24 +7,14 @@ mod memory;
 mod outside;
 mod real;
 mod top;
+mod words;
 
 use real::{RealFiles, RealSink};
-use sal_value::{List, NoMemory, Text};
-use std::alloc::Global;
+use sal_value::NoMemory;
 use std::env;
 use std::process::ExitCode;
-use top::salsa;
-
-/// The words after the program's name.
-fn words(alloc: Global, args: env::Args) -> Result<List<Text>, NoMemory> {
-    let mut words = List::new(alloc);
-    let mut args = args;
-    let _ = args.next();
-    for word in args {
-        words.push(Text::from_string(word))?;
-    }
-    Ok(words)
-}
+use top::{put, salsa};
+use words::{given_words, withheld_words};
 
 fn main(rt: HostRuntime) -> ExitCode {
     let alloc = rt.alloc();
@@ -40,14 +30,13 @@ fn main(rt: HostRuntime) -> ExitCode {
         stream: rt.stderr(),
         faults: 0,
     };
-    // No words at all where the system can't give them as texts.
     let words = match env::args(&rt) {
-        Ok(args) => words(alloc, args),
-        Err(_) => Ok(List::new(alloc)),
+        Ok(args) => given_words(alloc, args),
+        Err(error) => withheld_words(alloc, &error),
     };
     match words {
         Ok(words) => ExitCode::from(salsa(alloc, words.as_slice(), &mut files, &mut out, &mut err)),
-        Err(NoMemory) => ExitCode::from(7),
+        Err(NoMemory) => ExitCode::from(put(&mut err, b"no memory\n", 7)),
     }
 }
 

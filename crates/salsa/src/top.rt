@@ -11,7 +11,7 @@ use std::alloc::Global;
 const READ: usize = 262_145;
 
 /// Puts the bytes into the sink, and answers the status, or 6 where the sink failed.
-fn put<S: Sink>(sink: &mut S, bytes: &[u8], status: u8) -> u8
+pub fn put<S: Sink>(sink: &mut S, bytes: &[u8], status: u8) -> u8
     requires { status ≢ 6 }
     ensures { Puts status bytes.now result (S.faults sink.old) (S.faults sink.new) (S.taken sink.old) (S.taken sink.new) }
 {
