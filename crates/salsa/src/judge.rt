@@ -3,7 +3,7 @@ ghost use Rattle.std.specs.Prelude.{◌≡◌, IfOk};
 ghost use Rattle.salsa.specs.Top.{Judged, joined, run_setup};
 
 use crate::form::read_form;
-use sal_source::{PlayFault, Setup, chains_of_prints_run, play, trace_of};
+use sal_source::{Config, PlayFault, Setup, chains_of_prints_run, play, trace_of};
 use sal_value::{Authority, List, NoMemory, Text};
 use std::alloc::Global;
 
@@ -33,6 +33,13 @@ fn joined(alloc: Global, texts: &[Text]) -> Result<List<u8>, NoMemory>
     Ok(bytes)
 }
 
+/// The texts that a run has put out, in one piece.
+fn whole_output(alloc: Global, config: &Config) -> Result<List<u8>, NoMemory>
+    ensures { IfOk result (λ bytes. bytes ≡ joined config.now.output) }
+{
+    joined(alloc, config.output().as_slice())
+}
+
 /// Reads a program, and plays its run. None where the text spells no program of the form.
 pub fn judged(alloc: Global, text: &[u8]) -> Result<Option<List<u8>>, NoMemory>
     ensures { IfOk result (λ output. Judged text.now output) }
@@ -44,7 +51,7 @@ pub fn judged(alloc: Global, text: &[u8]) -> Result<Option<List<u8>>, NoMemory>
     let setup = run_setup(alloc)?;
     let trace = trace_of(alloc, &program)?;
     match play(alloc, &program, &setup, trace.as_slice()) {
-        Ok(config) => Ok(Some(joined(alloc, config.output().as_slice())?)),
+        Ok(config) => Ok(Some(whole_output(alloc, &config)?)),
         Err(PlayFault::Memory) => Err(NoMemory),
         Err(PlayFault::BadStep(_)) => unreachable!(),
     }

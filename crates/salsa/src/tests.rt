@@ -28,6 +28,23 @@ struct Ended {
     err: List<u8>,
 }
 
+/// One file `p` with this text.
+fn file(alloc: Global, text: &str) -> Result<List<Entry>, NoMemory> {
+    let name = Text::from_text(alloc, "p")?;
+    let bytes = List::from_slice(alloc, text.as_bytes())?;
+    let mut entries = List::new(alloc);
+    entries.push(Entry { name, bytes })?;
+    Ok(entries)
+}
+
+fn texts(alloc: Global, words: &[&str]) -> Result<List<Text>, NoMemory> {
+    let mut texts = List::new(alloc);
+    for word in words {
+        texts.push(Text::from_text(alloc, word)?)?;
+    }
+    Ok(texts)
+}
+
 /// Calls `salsa` with these words, where the file `p` has this text. The calls of `out` with the
 /// listed numbers fail.
 fn left_by(
@@ -36,19 +53,11 @@ fn left_by(
     text: &str,
     failing: List<u64>,
 ) -> Result<Ended, NoMemory> {
-    let mut entries = List::new(alloc);
-    entries.push(Entry {
-        name: Text::from_text(alloc, "p")?,
-        bytes: List::from_slice(alloc, text.as_bytes())?,
-    })?;
-    let mut files = MemFiles::new(alloc, entries, List::new(alloc));
+    let words = texts(alloc, words)?;
+    let mut files = MemFiles::new(alloc, file(alloc, text)?, List::new(alloc));
     let mut out = MemSink::new(alloc, failing);
     let mut err = MemSink::new(alloc, List::new(alloc));
-    let mut given = List::new(alloc);
-    for word in words {
-        given.push(Text::from_text(alloc, word)?)?;
-    }
-    let status = salsa(alloc, given.as_slice(), &mut files, &mut out, &mut err);
+    let status = salsa(alloc, words.as_slice(), &mut files, &mut out, &mut err);
     Ok(Ended {
         status,
         out: out.taken,

@@ -1,17 +1,16 @@
-use Rattle.std.proofs.Common.{Err, Option, ap, ◌∙◌, subst}
+use Rattle.std.proofs.Common.{Err, Option, ◌∙◌, subst}
 use Rattle.sal_ast.specs.declared.program.Program.{Program}
 use Rattle.sal_source.specs.declared.state.PlayFault.{PlayFault}
 use Rattle.sal_source.specs.Run.{Plays, IsFirstBad}
 use Rattle.salsa.specs.Form.{Read, Spells}
-use Rattle.salsa.specs.Top.{joined}
 use Rattle.salsa.proofs.Judging.{ran_is, never_bad}
 use Rattle.salsa.proofs.judge.judged.Goals as goal
 
 pub returns-in-Ok : goal.returns-in-Ok
 returns-in-Ok c =
     let spells : Spells c.args.text.now c.in-Some.program = subst (λ (o : Option Program). Read c.args.text.now o) c.in-Some.is c.in_ok-program.ensures in
-    ran_is c.args.text.now c.in-Some.program c.in_ok-setup.setup c.as_slice.result.now c.in-Ok.config c.in_ok-joined-in-Ok.field-0 c.chains_of_prints_run.ensures spells c.in_ok-setup.ensures
-    (c.as_slice.ensures ∙ c.in_ok-trace.ensures) c.in-Ok.ensures (c.in_ok-joined-in-Ok.ensures ∙ ap joined (c.as_slice-in-Ok.ensures ∙ c.output.ensures))
+    ran_is c.args.text.now c.in-Some.program c.in_ok-setup.setup c.as_slice.result.now c.in-Ok.config c.in_ok-whole_output-in-Ok.field-0 c.chains_of_prints_run.ensures spells c.in_ok-setup.ensures
+    (c.as_slice.ensures ∙ c.in_ok-trace.ensures) c.in-Ok.ensures c.in_ok-whole_output-in-Ok.ensures
 
 pub unreachable-requires : goal.unreachable-requires
 unreachable-requires c =
