@@ -2,7 +2,7 @@
 use Rattle.std.proofs.Common.{◌≡◌, ℕ, ◌≤◌, Bool, true, false, List, [], ◌∷◌, ◌++◌, map, length, cond, codes, Option, Some, None, option_and_then, refl, ap, sym, ◌∙◌, arith}
 use Rattle.sal_ast.specs.declared.statement.Stage.{Stage}
 use Rattle.sal_ast.specs.declared.statement.Stmt.{Stmt}
-use Rattle.sal_source.specs.Prints.{Print, stage_of, body_of}
+use Rattle.sal_handler.specs.Prints.{Print, stage_of, body_of}
 use Rattle.salsa.specs.Tokens.{Token, is_empty}
 use Rattle.salsa.specs.Form.{word, word_at, statement_tokens, ArePrints}
 use Rattle.salsa.specs.Reading.{skip_blanks, after_sign, is_end_after, is_end, ends_with, chain_of, whole_chain, stages_read, body_read}

@@ -1,7 +1,7 @@
 -- One more stage of a chain.
 use Rattle.std.proofs.Common.{◌≡◌, ℕ, zero, suc, ◌+◌, ◌-◌, ◌<◌, ◌≤◌, List, [], ◌∷◌, ◌++◌, codes, Option, Some, None, option_map, option_and_then, refl, ap, sym, append_assoc, arith}
 use Rattle.sal_ast.specs.declared.statement.Stage.{Stage}
-use Rattle.sal_source.specs.Prints.{Print, stage_of}
+use Rattle.sal_handler.specs.Prints.{Print, stage_of}
 use Rattle.salsa.specs.Reading.{stage_read, stages_read, after_sign, more_or_end, with_stage}
 
 step : (whole n : ℕ) (text : List ℕ) →

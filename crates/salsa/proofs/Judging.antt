@@ -8,8 +8,10 @@ use Rattle.sal_source.specs.declared.state.Step.{Step}
 use Rattle.sal_source.specs.Configuration.{Configuration}
 use Rattle.sal_source.specs.Step.{IsFinal}
 use Rattle.sal_source.specs.Run.{play, IsFirstBad}
-use Rattle.sal_source.specs.Stages.{print_count}
-use Rattle.sal_source.specs.Prints.{Print, trace, IsShort, AreShort, Runs, ChainsOfPrintsRun}
+use Rattle.sal_handler.specs.Fits.{meaning_of}
+use Rattle.sal_handler.specs.Listing.{stages_in}
+use Rattle.sal_handler.specs.Prints.{Print, IsShort, AreShort, IsChainOfPrints}
+use Rattle.sal_source.specs.Prints.{trace, Runs, ChainsOfPrintsRun}
 use Rattle.salsa.specs.Form.{IsPlainIfThere, ArePrints, Spells}
 use Rattle.salsa.specs.Outside.{Held, OnFile}
 use Rattle.salsa.specs.Top.{joined, run_setup, Ran, Judged}
@@ -22,14 +24,17 @@ shorts : (ps : List Print) → ArePrints ps → AreShort ps
 shorts [] h = tt
 shorts (p ∷ ps) h = (short_text p.text h.0.plain, shorts ps h.1)
 
+pub chain_of : (text : List ℕ) (program : Program) → Spells text program → IsChainOfPrints program
+chain_of text program sp = record { outline = sp.outline; is_tree = sp.is; few = sp.outlines.few; short = shorts sp.outline.prints sp.outlines.prints }
+
 -- the run of a program that was read
 run_of : (text : List ℕ) (program : Program) → ChainsOfPrintsRun → (sp : Spells text program) → Runs sp.outline run_setup
 run_of text program law sp = law sp.outline run_setup sp.outlines.few (shorts sp.outline.prints sp.outlines.prints)
 
-counted : (text : List ℕ) (program : Program) (law : ChainsOfPrintsRun) (sp : Spells text program) → print_count program ≡ length sp.outline.prints
-counted text program law sp = ap print_count sp.is ∙ (run_of text program law sp).count
+counted : (text : List ℕ) (program : Program) (law : ChainsOfPrintsRun) (sp : Spells text program) → length (stages_in program) ≡ length sp.outline.prints
+counted text program law sp = ap (λ p. length (stages_in p)) sp.is ∙ (run_of text program law sp).count
 
-plays : (text : List ℕ) (program : Program) (setup : Setup) (steps : List Step) (law : ChainsOfPrintsRun) (sp : Spells text program) → setup ≡ run_setup → steps ≡ trace (print_count program) →
+plays : (text : List ℕ) (program : Program) (setup : Setup) (steps : List Step) (law : ChainsOfPrintsRun) (sp : Spells text program) → setup ≡ run_setup → steps ≡ trace (length (stages_in program)) →
     play program setup steps ≡ Some (run_of text program law sp).end
 plays text program setup steps law sp s t =
     ap (λ x. play program x steps) s
@@ -41,11 +46,11 @@ some_is : {A : Type 0} {a b : A} → Some a ≡ Some b → a ≡ b
 some_is e = cc
 
 pub ran_is : (text : List ℕ) (program : Program) (setup : Setup) (steps : List Step) (config : Configuration) (output : List ℕ) → ChainsOfPrintsRun → Spells text program → setup ≡ run_setup →
-    steps ≡ trace (print_count program) → play program setup steps ≡ Some config → output ≡ joined config.output → Ran text output
+    steps ≡ trace (length (stages_in program)) → play program setup steps ≡ Some config → output ≡ joined config.output → Ran text output
 ran_is text program setup steps config output law sp s t e o =
     let r : Runs sp.outline run_setup = run_of text program law sp in
     let same : config ≡ r.end = some_is (sym e ∙ plays text program setup steps law sp s t) in
-    let F : Program → Type 0 = λ p. IsFinal p r.end in
+    let F : Program → Type 0 = λ p. IsFinal (meaning_of p) run_setup r.end in
     record {
       program = program;
       spells = sp;
@@ -57,7 +62,7 @@ ran_is text program setup steps config output law sp s t e o =
     }
 
 pub never_bad : (text : List ℕ) (program : Program) (setup : Setup) (steps : List Step) (i : ℕ) → ChainsOfPrintsRun → Spells text program → setup ≡ run_setup →
-    steps ≡ trace (print_count program) → IsFirstBad program setup steps i → ⊥
+    steps ≡ trace (length (stages_in program)) → IsFirstBad program setup steps i → ⊥
 never_bad text program setup steps i law sp s t bad = absurd (let e : None ≡ Some (run_of text program law sp).end = sym bad.whole ∙ plays text program setup steps law sp s t in cc)
 
 -- ---- the first bytes of a file tell whether it is too long

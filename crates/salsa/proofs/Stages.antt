@@ -6,7 +6,7 @@ use Rattle.std.proofs.lemmas.Option.{cond_some}
 use Rattle.std.proofs.lemmas.Slice.Eq.{bytes_eq-Decides}
 use Rattle.sal_ast.specs.declared.program.Ident.{Ident}
 use Rattle.sal_ast.specs.declared.statement.Stage.{Stage}
-use Rattle.sal_source.specs.Prints.{Print, stage_of}
+use Rattle.sal_handler.specs.Prints.{Print, stage_of}
 use Rattle.salsa.specs.Tokens.{Token, is_identifier}
 use Rattle.salsa.specs.Form.{word, word_at, name_of, string_of, stage_tokens, further_tokens, statement_tokens, IsPlainIfThere, IsPrint, ArePrints}
 use Rattle.salsa.specs.Reading.{after_sign, behind, word_read, name_read, string_read, aim_read, is_print, if_print, handler_read, argument_read, print_of, stage_handled, stage_aimed, stage_read, stages_read, more_or_end, with_stage}

@@ -4,7 +4,7 @@ use Rattle.std.specs.Str.{IsUtf8}
 use Rattle.std.proofs.lemmas.Bool.{ltb-false, le-ltb}
 use Rattle.sal_ast.specs.declared.program.Program.{Program}
 use Rattle.sal_ast.specs.declared.statement.Stmt.{Stmt}
-use Rattle.sal_source.specs.Prints.{Print, Outline, program_of}
+use Rattle.sal_handler.specs.Prints.{Print, Outline, program_of}
 use Rattle.sal_value.specs.declared.text.NoMemory.{NoMemory}
 use Rattle.salsa.specs.Form.{Read, Spells, Outlines, program_tokens, statement_tokens}
 use Rattle.salsa.specs.Reading.{text_of, Header, header_of, head_read, body_read, tree_of, program_headed, program_read, form_read}

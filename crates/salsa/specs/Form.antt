@@ -4,7 +4,7 @@ use Rattle.std.specs.List.{list_any}
 use Rattle.std.specs.Str.{IsUtf8}
 use Rattle.sal_ast.specs.declared.program.Ident.{Ident}
 use Rattle.sal_ast.specs.declared.program.Program.{Program}
-use Rattle.sal_source.specs.Prints.{Print, Outline, program_of}
+use Rattle.sal_handler.specs.Prints.{Print, Outline, program_of}
 use Rattle.salsa.specs.Tokens.{Token, Cut, is_identifier}
 
 -- a word or sign of the grammar, whose place the tree doesn't hold

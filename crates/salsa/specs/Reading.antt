@@ -11,7 +11,7 @@ use Rattle.sal_ast.specs.declared.program.Member.TheVariants as member
 use Rattle.sal_ast.specs.declared.statement.Stage.{Stage}
 use Rattle.sal_ast.specs.declared.statement.Stmt.{Stmt}
 use Rattle.sal_ast.specs.declared.statement.Stmt.TheVariants as stmt
-use Rattle.sal_source.specs.Prints.{Print, stage_of}
+use Rattle.sal_handler.specs.Prints.{Print, stage_of}
 use Rattle.salsa.specs.Tokens.{is_blank, is_letter, is_name_byte, is_empty}
 
 abbrev pub skip_blanks : List ℕ → List ℕ

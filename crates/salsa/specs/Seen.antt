@@ -3,7 +3,7 @@ use Rattle.std.specs.Prelude.{ℕ, List, Option, option_map}
 use denote.Ref.{Bor}
 use Rattle.sal_ast.specs.declared.program.Ident.{Ident}
 use Rattle.sal_ast.specs.declared.statement.Stage.{Stage as Stage}
-use Rattle.sal_source.specs.Prints.{Print as Printed}
+use Rattle.sal_handler.specs.Prints.{Print as Printed}
 use Rattle.salsa.specs.declared.form.pieces.Piece.{Piece}
 use Rattle.salsa.specs.declared.form.chains.Print.{Print}
 use Rattle.salsa.specs.declared.form.chains.Stages.{Stages}

@@ -4,6 +4,7 @@ use Rattle.std.specs.Str.{bytes_eq}
 use Rattle.sal_ast.specs.declared.program.Program.{Program}
 use Rattle.sal_source.specs.declared.state.Setup.{Setup}
 use Rattle.sal_source.specs.Configuration.{Configuration}
+use Rattle.sal_handler.specs.Fits.{meaning_of}
 use Rattle.sal_source.specs.Step.{IsFinal}
 use Rattle.sal_source.specs.Run.{play}
 use Rattle.sal_source.specs.Prints.{lines_of, trace}
@@ -39,7 +40,7 @@ pub record Ran (text output : List ℕ) : Type 0 where
   pub is_run : play program run_setup (trace (length spells.outline.prints)) ≡ Some end
   pub texts : end.output ≡ lines_of spells.outline.prints
   pub output_is : output ≡ joined end.output
-  pub final : IsFinal program end
+  pub final : IsFinal (meaning_of program) run_setup end
 
 -- what judging a text gives: the bytes that its program prints, or none where it spells no program
 abbrev pub Judged : List ℕ → Option (List ℕ) → Type 0

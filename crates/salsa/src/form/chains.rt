@@ -1,5 +1,5 @@
 ghost use Rattle.std.specs.Prelude.{◌≡◌, ◌≤◌, option_map, IfOk};
-ghost use Rattle.sal_source.specs.Prints.{argument_of, stage_of};
+ghost use Rattle.sal_handler.specs.Prints.{argument_of, stage_of};
 ghost use Rattle.salsa.specs.Reading.{aim_read, is_print, handler_read, argument_read, stage_read, stages_read};
 ghost use Rattle.salsa.specs.Seen.{quote_seen, word_seen, name_seen, string_seen, print_seen, stage_seen, stages_seen};
 
