@@ -6,6 +6,7 @@ ghost use Rattle.std.specs.FinMap as fm;
 ghost use Rattle.sal_source.specs.Table.{keys_of, write};
 ghost use Rattle.sal_source.specs.Keys.{name_key, actor_key};
 ghost use Rattle.sal_source.specs.Configuration.{first_of, act_message};
+ghost use Rattle.sal_source.specs.Give.{give};
 ghost use Rattle.sal_source.specs.Step as spec;
 ghost use Rattle.sal_source.specs.Changes.{Takes};
 ghost use Rattle.sal_handler.specs.declared.turn.Began.TheVariants as began;
@@ -550,6 +551,21 @@ impl Config {
         let mut answers = List::new(alloc);
         waiting.settle(alloc, &mut answers, left)?;
         self.tell(text, waiting, answers)
+    }
+
+    /// A reply is given to whom it is owed, and then what it fills or completes.
+    pub fn give(&mut self, alloc: Global, reply: Reply, value: Value) -> Result<(), NoMemory>
+        ensures ok { OnOk result (self.new ≡ give reply value self.old) }
+        ensures err { OnErr result (self.new ≡ self.old) }
+    {
+        let mut waiting = self.waiting.copied(alloc)?;
+        let mut left = List::new(alloc);
+        left.push((reply, value))?;
+        let mut answers = List::new(alloc);
+        waiting.settle(alloc, &mut answers, left)?;
+        self.answers.append(answers)?;
+        self.waiting = waiting;
+        Ok(())
     }
 
     /// The step of a message to the output. False where the step isn't possible.
