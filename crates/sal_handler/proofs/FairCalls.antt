@@ -25,10 +25,10 @@ use Rattle.sal_handler.specs.Scopes.{Reads}
 use Rattle.sal_handler.specs.Expressions.{eval}
 use Rattle.sal_handler.specs.Statements.{block}
 use Rattle.sal_handler.specs.Handler as h
-use Rattle.sal_handler.specs.Fair.{EachOf, Legal, body_args, program_args, owed, passes, IsSoundCall, IsFair, HandlersAreFair}
+use Rattle.sal_handler.specs.Fair.{EachOf, Legal, WaitsWithin, IsLegalPiece, IsGoodMessage, body_args, program_args, owed, passes, IsOld, IsOrderly, HandlersAreOrderly, HandlersAreFair}
 use Rattle.sal_handler.proofs.After.{After}
 use Rattle.sal_handler.proofs.Induction.{IfAny}
-use Rattle.sal_handler.proofs.Legal.{legal_null, default_legal}
+use Rattle.sal_handler.proofs.Lawful.{Lawful, lawful_null, default_lawful}
 use Rattle.sal_handler.proofs.Sound as d
 use Rattle.sal_handler.proofs.Sound.{Able, MakesLegal, IsGoodLocal}
 use Rattle.sal_handler.proofs.FairExpressions as x
@@ -36,181 +36,260 @@ use Rattle.sal_handler.proofs.FairJoins.{exit, FlowOk}
 use Rattle.sal_handler.proofs.FairStatements as s
 use Rattle.sal_handler.proofs.FairStatements.{each_set, set_length}
 use Rattle.sal_handler.proofs.FairHandlers.{block_fair}
+use Rattle.sal_value.specs.declared.name.Name.{Name}
+use Rattle.sal_mail.specs.declared.message.Piece.{Piece}
+use Rattle.sal_mail.specs.declared.message.Piece.TheVariants.{Known, Token}
+use Rattle.sal_mail.specs.declared.message.Reply.{Reply}
+use Rattle.sal_mail.specs.declared.message.Message.{Message}
+use Rattle.sal_handler.proofs.Addresses.{each_more}
 
--- ---- how a body starts
+module _ (Asked : Type 0) where
+  -- ---- how a body starts
 
-parameters_good : (from to : ℕ) (behaviors : List Behavior) (ps : List Param) (vs : List Value) → EachOf Legal vs → EachOf (IsGoodLocal from to) (h.parameters behaviors ps vs)
-parameters_good from to behaviors [] vs l = tt
-parameters_good from to behaviors (p ∷ ps) [] l = (legal_null, parameters_good from to behaviors ps [] tt)
-parameters_good from to behaviors (p ∷ ps) (v ∷ vs) l = (l.0, parameters_good from to behaviors ps vs l.1)
+  parameters_good : (from to : ℕ) (behaviors : List Behavior) (ps : List Param) (vs : List Value) → EachOf (Lawful Asked) vs → EachOf (IsGoodLocal Asked from to) (h.parameters behaviors ps vs)
+  parameters_good from to behaviors [] vs l = tt
+  parameters_good from to behaviors (p ∷ ps) [] l = (lawful_null Asked, parameters_good from to behaviors ps [] tt)
+  parameters_good from to behaviors (p ∷ ps) (v ∷ vs) l = (l.0, parameters_good from to behaviors ps vs l.1)
 
-start_sound : (most from : ℕ) (r : Reads) (locals : List Local) (fields : List Value) → r.within ≡ [] → EachOf (IsGoodLocal from from) locals → EachOf Legal fields → d.Sound from most (length fields) r 0 (h.started locals fields from)
-start_sound most from r locals fields e l f = record {
-  low = omega arith;
-  once = λ k. omega arith;
-  below = λ k le. refl;
-  above = λ k le. refl;
-  owed_once = λ a some. omega arith;
-  new_tokens = λ k le. refl;
-  new_places = λ k i le. refl;
-  next_places = subst (λ is. d.NextPlaces from most (length fields) is r.me (h.started locals fields from)) (sym e) tt;
-  caller = λ some. omega arith;
-  within = subst (EachOf (d.IsGoodInside from from)) (sym e) tt;
-  locals = l;
-  messages = tt;
-  joins = tt;
-  names = tt;
-  actors = tt;
-  creations = tt;
-  fields = f;
-  count = refl;
-}
-
--- ---- new actors
-
-alone_able : (behaviors : List Behavior) (n : ℕ) → Able 0 (h.alone behaviors n)
-unfolding name_is_spelled
-alone_able behaviors n = record { me = refl; fresh = tt; reply = tt; make = tt }
-
-module _ (most width : ℕ) where
-  abbrev Keeps : Reads → State → Checked (Unit {0} × State) → Type 0
-  Keeps r u o = d.FairAt 0 most width {A = Unit {0}} r (λ a. 0) (s.Done 0 most width) u o
-
-  one_initialised : (o : Option Expr) (i : ℕ) (r : Reads) → Able 0 r → (u : State) → d.Sound 0 most width r 0 u → Keeps r u (h.initialised o i r u)
-  one_initialised None i r able u k = d.fair_pure 0 most width r (λ (a : Unit {0}). 0) (s.Done 0 most width) u tt k tt
-  one_initialised (Some e) i r able u k =
-      x.keeps_then 0 most width r 0 (s.OfValue 0 most width) (λ (a : Unit {0}). 0) (s.Done 0 most width) u (eval e r) _ (x.eval_fair 0 most width e r 0 able u k) (λ v w mv j l.
-      record { holds = (record { sound = d.sound_fields 0 most width r 0 w (slice_set w.fields i v) j (each_set Legal w.fields i v j.fields l) (set_length w.fields i v); moves = d.moves_quiet 0 most width r w (d.with_fields 0 most width (slice_set w.fields i v) w) (omega arith) refl (λ a. refl) }, tt) })
-
-  initialised_fair : (fs : List Field) (i : ℕ) (r : Reads) → Able 0 r → (u : State) → d.Sound 0 most width r 0 u → Keeps r u (h.all_initialised fs i r u)
-  initialised_fair [] i r able u k = d.fair_pure 0 most width r (λ (a : Unit {0}). 0) (s.Done 0 most width) u tt k tt
-  initialised_fair (f ∷ fs) i r able u k =
-      x.keeps_then 0 most width r 0 (s.Done 0 most width) (λ (a : Unit {0}). 0) (s.Done 0 most width) u (h.initialised f.init i r) (λ _. h.all_initialised fs (i + 1) r) (one_initialised f.init i r able u k) (λ a w mv j q. initialised_fair fs (i + 1) r able w j)
-
-defaults_legal : (fs : List Field) → EachOf Legal (h.default_fields fs)
-defaults_legal [] = tt
-defaults_legal (f ∷ fs) = (default_legal f.sort, defaults_legal fs)
-
--- what is left of a part is legal
-fields_left : {A : Type 0} (P : A → State → Type 0) (o : Checked (A × State)) (fields : List Value) → After P o → ((a : A) (t : State) → P a t → EachOf Legal t.fields) → and_then o (λ x. Ok x.1.fields) ≡ Ok fields → EachOf Legal fields
-fields_left P (Ok z) fields p f e = let same : z.1.fields ≡ fields = cc in subst (EachOf Legal) same (f z.0 z.1 p)
-fields_left P (Err k) fields p f e = absurd cc
-
-initial_legal : (b : Behavior) (behaviors : List Behavior) (n : ℕ) (fields : List Value) → h.initial_fields b (h.alone behaviors n) ≡ Ok fields → EachOf Legal fields
-initial_legal b behaviors n fields e =
-    let start = start_sound 0 0 (h.alone behaviors n) [] (h.default_fields (fields_of b)) refl tt (defaults_legal (fields_of b)) in
-    fields_left _ (h.all_initialised (fields_of b) 0 (h.alone behaviors n) (h.started [] (h.default_fields (fields_of b)) 0)) fields
-    (initialised_fair 0 (length (h.default_fields (fields_of b))) (fields_of b) 0 (h.alone behaviors n) (alone_able behaviors n) (h.started [] (h.default_fields (fields_of b)) 0) start).holds (λ a t z. z.0.sound.fields) e
-
-constructed_legal : (o : Option Handler) (args : List Value) (behaviors : List Behavior) (n : ℕ) (old fields : List Value) → EachOf Legal args → EachOf Legal old → h.constructed o args (h.alone behaviors n) old ≡ Ok fields → EachOf Legal fields
-constructed_legal None args behaviors n old fields l f e = let same : old ≡ fields = cc in subst (EachOf Legal) same f
-constructed_legal (Some c) args behaviors n old fields l f e =
-    let r : Reads = h.alone behaviors n in
-    let u : State = h.started (h.parameters behaviors c.params args) old 0 in
-    let start = start_sound (body_args c.body) 0 r (h.parameters behaviors c.params args) old refl (parameters_good 0 0 behaviors c.params args l) f in
-    fields_left _ (block c.body r u) fields (block_fair 0 (body_args c.body) (length old) c.body (omega arith) r 0 (λ q. refl) (alone_able behaviors n) u start).holds (λ a t z. z.0.sound.fields) e
-
-built_legal : (o : Option Behavior) (args : List Value) (behaviors : List Behavior) (n : ℕ) (fields : List Value) → EachOf Legal args → h.built o args (h.alone behaviors n) ≡ Ok fields → EachOf Legal fields
-built_legal None args behaviors n fields l e = let same : [] ≡ fields = cc in subst (EachOf Legal) same tt
-built_legal (Some b) args behaviors n fields l e = at (h.initial_fields b (h.alone behaviors n)) (initial_legal b behaviors n) e
-  where
-    at : (o : Checked (List Value)) → ((old : List Value) → o ≡ Ok old → EachOf Legal old) → and_then o (h.constructed (constructor_of b) args (h.alone behaviors n)) ≡ Ok fields → EachOf Legal fields
-    at (Ok old) good e = constructed_legal (constructor_of b) args behaviors n old fields l (good old refl) e
-    at (Err k) good e = absurd cc
-
-new_legal : (behaviors : List Behavior) → MakesLegal (h.new_fields behaviors)
-unfolding h.new_fields
-new_legal behaviors n args fields l e = built_legal (slice_get behaviors n) args behaviors n fields l e
-
--- ---- handlers
-
-most_at : {X : Type 0} (f : X → ℕ) (xs : List X) (i : ℕ) → IfAny (λ x. f x ≤ greatest (map f xs)) (slice_get xs i)
-most_at f [] i = tt
-most_at f (x ∷ xs) zero = omega arith
-most_at f (x ∷ xs) (suc i) = any_more (slice_get xs i) (most_at f xs i)
-  where
-    any_more : (o : Option _) → IfAny (λ y. f y ≤ greatest (map f xs)) o → IfAny (λ y. f y ≤ max (f x) (greatest (map f xs))) o
-    any_more None l = tt
-    any_more (Some y) l = omega (arith, l)
-
-module _ (p : Program) (c : Call) (sound : IsSoundCall c) where
-  able : Able c.serial (h.reads p c)
-  able = record { me = sound.me; fresh = sound.names; reply = sound.reply; make = new_legal p.behaviors }
-
-  from_state : (most : ℕ) (f : Flow) (t : State) → d.Sound c.serial most (length c.fields) (h.reads p c) (exit c.serial most (length c.fields) 0 f) t → IsFair most c (h.effects_of f t c.fresh)
-  from_state most f t k = record {
-    rises = k.low;
-    once = k.once;
-    low = k.below;
-    high = k.above;
-    messages = k.messages;
-    joins = k.joins;
-    owed_once = k.owed_once;
-    passed = λ some. passed f (k.caller some);
-    names = k.names;
-    actors = k.actors;
-    creations = k.creations;
-    fields = k.fields;
-    count = k.count;
+  start_sound : (most from : ℕ) (r : Reads) (locals : List Local) (fields : List Value) → r.within ≡ [] → EachOf (IsGoodLocal Asked from from) locals → EachOf (Lawful Asked) fields → d.Sound Asked from most (length fields) r 0 (h.started locals fields from)
+  start_sound most from r locals fields e l f = record {
+    low = omega arith;
+    once = λ k. omega arith;
+    below = λ k le. refl;
+    above = λ k le. refl;
+    owed_once = λ a some. omega arith;
+    new_tokens = λ k le. refl;
+    new_places = λ k i le. refl;
+    next_places = subst (λ is. d.NextPlaces Asked from most (length fields) is r.me (h.started locals fields from)) (sym e) tt;
+    caller = λ some. omega arith;
+    within = subst (EachOf (d.IsGoodInside from from)) (sym e) tt;
+    locals = l;
+    messages = tt;
+    joins = tt;
+    names = tt;
+    actors = tt;
+    creations = tt;
+    fields = f;
+    count = refl;
   }
+
+  -- ---- new actors
+
+  alone_able : (behaviors : List Behavior) (n : ℕ) → Able Asked 0 (h.alone behaviors n)
+  unfolding name_is_spelled
+  alone_able behaviors n = record { me = λ q. refl; fresh = λ q. tt; reply = tt; make = tt }
+
+  module _ (most width : ℕ) where
+    abbrev Keeps : Reads → State → Checked (Unit {0} × State) → Type 0
+    Keeps r u o = d.FairAt Asked 0 most width {A = Unit {0}} r (λ a. 0) (s.Done Asked 0 most width) u o
+
+    one_initialised : (o : Option Expr) (i : ℕ) (r : Reads) → Able Asked 0 r → (u : State) → d.Sound Asked 0 most width r 0 u → Keeps r u (h.initialised o i r u)
+    one_initialised None i r able u k = d.fair_pure Asked 0 most width r (λ (a : Unit {0}). 0) (s.Done Asked 0 most width) u tt k tt
+    one_initialised (Some e) i r able u k =
+        x.keeps_then Asked 0 most width r 0 (s.OfValue Asked 0 most width) (λ (a : Unit {0}). 0) (s.Done Asked 0 most width) u (eval e r) _ (x.eval_fair Asked 0 most width e r 0 able u k) (λ v w mv j l.
+        record { holds = (record { sound = d.sound_fields Asked 0 most width r 0 w (slice_set w.fields i v) j (each_set (Lawful Asked) w.fields i v j.fields l) (set_length w.fields i v); moves = d.moves_quiet Asked 0 most width r w (d.with_fields Asked 0 most width (slice_set w.fields i v) w) (omega arith) refl (λ a. refl) }, tt) })
+
+    initialised_fair : (fs : List Field) (i : ℕ) (r : Reads) → Able Asked 0 r → (u : State) → d.Sound Asked 0 most width r 0 u → Keeps r u (h.all_initialised fs i r u)
+    initialised_fair [] i r able u k = d.fair_pure Asked 0 most width r (λ (a : Unit {0}). 0) (s.Done Asked 0 most width) u tt k tt
+    initialised_fair (f ∷ fs) i r able u k =
+        x.keeps_then Asked 0 most width r 0 (s.Done Asked 0 most width) (λ (a : Unit {0}). 0) (s.Done Asked 0 most width) u (h.initialised f.init i r) (λ _. h.all_initialised fs (i + 1) r) (one_initialised f.init i r able u k) (λ a w mv j q. initialised_fair fs (i + 1) r able w j)
+
+  defaults_legal : (fs : List Field) → EachOf (Lawful Asked) (h.default_fields fs)
+  defaults_legal [] = tt
+  defaults_legal (f ∷ fs) = (default_lawful Asked f.sort, defaults_legal fs)
+
+  -- what is left of a part is legal
+  fields_left : {A : Type 0} (P : A → State → Type 0) (o : Checked (A × State)) (fields : List Value) → After P o → ((a : A) (t : State) → P a t → EachOf (Lawful Asked) t.fields) → and_then o (λ x. Ok x.1.fields) ≡ Ok fields → EachOf (Lawful Asked) fields
+  fields_left P (Ok z) fields p f e = let same : z.1.fields ≡ fields = cc in subst (EachOf (Lawful Asked)) same (f z.0 z.1 p)
+  fields_left P (Err k) fields p f e = absurd cc
+
+  initial_legal : (b : Behavior) (behaviors : List Behavior) (n : ℕ) (fields : List Value) → h.initial_fields b (h.alone behaviors n) ≡ Ok fields → EachOf (Lawful Asked) fields
+  initial_legal b behaviors n fields e =
+      let start = start_sound 0 0 (h.alone behaviors n) [] (h.default_fields (fields_of b)) refl tt (defaults_legal (fields_of b)) in
+      fields_left _ (h.all_initialised (fields_of b) 0 (h.alone behaviors n) (h.started [] (h.default_fields (fields_of b)) 0)) fields
+      (initialised_fair 0 (length (h.default_fields (fields_of b))) (fields_of b) 0 (h.alone behaviors n) (alone_able behaviors n) (h.started [] (h.default_fields (fields_of b)) 0) start).holds (λ a t z. z.0.sound.fields) e
+
+  constructed_legal : (o : Option Handler) (args : List Value) (behaviors : List Behavior) (n : ℕ) (old fields : List Value) → EachOf (Lawful Asked) args → EachOf (Lawful Asked) old → h.constructed o args (h.alone behaviors n) old ≡ Ok fields → EachOf (Lawful Asked) fields
+  constructed_legal None args behaviors n old fields l f e = let same : old ≡ fields = cc in subst (EachOf (Lawful Asked)) same f
+  constructed_legal (Some c) args behaviors n old fields l f e =
+      let r : Reads = h.alone behaviors n in
+      let u : State = h.started (h.parameters behaviors c.params args) old 0 in
+      let start = start_sound (body_args c.body) 0 r (h.parameters behaviors c.params args) old refl (parameters_good 0 0 behaviors c.params args l) f in
+      fields_left _ (block c.body r u) fields (block_fair Asked 0 (body_args c.body) (length old) c.body (omega arith) r 0 (λ q. refl) (alone_able behaviors n) u start).holds (λ a t z. z.0.sound.fields) e
+
+  built_legal : (o : Option Behavior) (args : List Value) (behaviors : List Behavior) (n : ℕ) (fields : List Value) → EachOf (Lawful Asked) args → h.built o args (h.alone behaviors n) ≡ Ok fields → EachOf (Lawful Asked) fields
+  built_legal None args behaviors n fields l e = let same : [] ≡ fields = cc in subst (EachOf (Lawful Asked)) same tt
+  built_legal (Some b) args behaviors n fields l e = at (h.initial_fields b (h.alone behaviors n)) (initial_legal b behaviors n) e
     where
-      passed : (f : Flow) → owed (address c.reply) t.messages t.joins ≤ exit c.serial most (length c.fields) 0 f → owed (address c.reply) t.messages t.joins ≤ passes (h.answer_of f)
-      passed Next l = l
-      passed (Returned v) l = l
-      passed Passed l = omega (arith, l)
+      at : (o : Checked (List Value)) → ((old : List Value) → o ≡ Ok old → EachOf (Lawful Asked) old) → and_then o (h.constructed (constructor_of b) args (h.alone behaviors n)) ≡ Ok fields → EachOf (Lawful Asked) fields
+      at (Ok old) good e = constructed_legal (constructor_of b) args behaviors n old fields l (good old refl) e
+      at (Err k) good e = absurd cc
 
-  unchanged_fair : (most : ℕ) → IsFair most c (h.unchanged c)
-  unchanged_fair most = from_state most Next (h.started [] c.fields c.serial) (start_sound most c.serial (h.reads p c) [] c.fields refl tt sound.fields)
+  new_legal : (behaviors : List Behavior) → MakesLegal Asked (h.new_fields behaviors)
+  unfolding h.new_fields
+  new_legal behaviors n args fields l e = built_legal (slice_get behaviors n) args behaviors n fields l e
 
-  abbrev Leaves : ℕ → Checked Effects → Type 0
-  Leaves most (Ok e) = IsFair most c e
-  Leaves most (Err k) = Unit {0}
+  -- ---- handlers
 
-  ran_fair : (most : ℕ) (o : Option Handler) → IfAny (λ x. body_args x.body ≤ most) o → Leaves most (h.ran o p c)
-  ran_fair most None l = unchanged_fair most
-  ran_fair most (Some x) l = at (block x.body (h.reads p c) u) (block_fair c.serial most (length c.fields) x.body l (h.reads p c) 0 (λ q. refl) able u start).holds
+  most_at : {X : Type 0} (f : X → ℕ) (xs : List X) (i : ℕ) → IfAny (λ x. f x ≤ greatest (map f xs)) (slice_get xs i)
+  most_at f [] i = tt
+  most_at f (x ∷ xs) zero = omega arith
+  most_at f (x ∷ xs) (suc i) = any_more (slice_get xs i) (most_at f xs i)
     where
-      u : State
-      u = h.started (h.parameters p.behaviors x.params c.args) c.fields c.serial
+      any_more : (o : Option _) → IfAny (λ y. f y ≤ greatest (map f xs)) o → IfAny (λ y. f y ≤ max (f x) (greatest (map f xs))) o
+      any_more None l = tt
+      any_more (Some y) l = omega (arith, l)
 
-      start : d.Sound c.serial most (length c.fields) (h.reads p c) 0 u
-      start = start_sound most c.serial (h.reads p c) (h.parameters p.behaviors x.params c.args) c.fields refl (parameters_good c.serial c.serial p.behaviors x.params c.args sound.args) sound.fields
+  -- a call with an old reply, and what is legal where that is asked for
+  record IsSoundFor (c : Call) : Type 0 where
+    fields : EachOf (Lawful Asked) c.fields
+    args : EachOf (Lawful Asked) c.args
+    reply : IsOld c.me c.serial c.reply
+    me : Asked → name_is_spelled c.me ≡ true
+    names : Asked → EachOf (λ n. name_is_spelled n ≡ true) c.names
 
-      at : (o : Checked (Flow × State)) → After (λ f t. d.Reach c.serial most (length c.fields) (h.reads p c) (exit c.serial most (length c.fields) 0 f) u t × FlowOk c.serial most (length c.fields) (h.reads p c) f t) o → Leaves most (and_then o (λ z. Ok (h.effects_of z.0 z.1 c.fresh)))
-      at (Ok z) r = from_state most z.0 z.1 r.0.sound
-      at (Err k) r = tt
+  abbrev IsLawfulPiece : Piece → Type 0
+  IsLawfulPiece (Known v) = Lawful Asked v
+  IsLawfulPiece (Token n) = Unit {0}
 
-  handlers_low : (b : Behavior) (i most : ℕ) → greatest (map (λ x. body_args x.body) (handlers_of b)) ≤ most → IfAny (λ x. body_args x.body ≤ most) (slice_get (handlers_of b) i)
-  handlers_low b i most l = any_more (slice_get (handlers_of b) i) (most_at (λ x. body_args x.body) (handlers_of b) i)
-    where
-      any_more : (o : Option Handler) → IfAny (λ x. body_args x.body ≤ greatest (map (λ x. body_args x.body) (handlers_of b))) o → IfAny (λ x. body_args x.body ≤ most) o
-      any_more None z = tt
-      any_more (Some x) z = omega (arith, z, l)
+  record IsFairFor (most : ℕ) (c : Call) (e : Effects) : Type 0 where
+    order : IsOrderly most c e
+    args : EachOf (λ m. EachOf IsLawfulPiece m.args) e.messages
+    actors : EachOf (λ a. EachOf (Lawful Asked) a.fields) e.actors
+    creations : EachOf (λ x. EachOf (Lawful Asked) x.fields) e.creations
+    fields : EachOf (Lawful Asked) e.fields
 
-  ran_in_fair : (most : ℕ) (o : Option Behavior) → IfAny (λ b. greatest (map (λ x. body_args x.body) (handlers_of b)) ≤ most) o → Leaves most (h.ran_in o p c)
-  ran_in_fair most None l = unchanged_fair most
-  ran_in_fair most (Some b) l = ran_fair most (slice_get (handlers_of b) c.handler) (handlers_low b c.handler most l)
+  waits : (from to : ℕ) (y : Piece) → d.IsGoodPiece Asked from to y → WaitsWithin from to y
+  waits from to (Known v) g = tt
+  waits from to (Token n) g = g
 
-  moved_fair : (most : ℕ) (o : Option Ual) → Leaves most (h.moved o c)
-  moved_fair most None = tt
-  moved_fair most (Some l) = unchanged_fair most
+  lawful_piece : (from to : ℕ) (y : Piece) → d.IsGoodPiece Asked from to y → IsLawfulPiece y
+  lawful_piece from to (Known v) g = g
+  lawful_piece from to (Token n) g = tt
 
-  run_fair : Leaves (program_args p) (h.run p c)
-  unfolding program_args
-  run_fair = late (nat_lt 18446744073709547520 c.serial)
-    where
-      here : (b : Bool) → Leaves (program_args p) (if b then h.migrated c else h.ran_in (slice_get p.behaviors c.behavior) p c)
-      here true = moved_fair (program_args p) (ual_of (h.first_text c.args))
-      here false = ran_in_fair (program_args p) (slice_get p.behaviors c.behavior) (most_at (λ b. greatest (map (λ x. body_args x.body) (handlers_of b))) p.behaviors c.behavior)
+  ordered : (me : Name) (caller : Reply) (from to most : ℕ) (m : Message) → d.IsGoodMessage Asked me caller from to most m → IsGoodMessage me caller from to most m
+  ordered me caller from to most m g = record {
+    maker = g.maker;
+    args = each_more (d.IsGoodPiece Asked from to) (WaitsWithin from to) m.args (waits from to) g.args;
+    few = g.few;
+    after = g.after;
+    reply = g.reply;
+  }
 
-      late : (b : Bool) → Leaves (program_args p) (if b then Err TooManyMessages else h.ran_from p c)
-      late true = tt
-      late false = here (nat_eq c.handler 65535)
+  module _ (p : Program) (c : Call) (sound : IsSoundFor c) where
+    able : Able Asked c.serial (h.reads p c)
+    able = record { me = sound.me; fresh = sound.names; reply = sound.reply; make = new_legal p.behaviors }
 
-  done_fair : (o : Checked Effects) (e : Effects) → Leaves (program_args p) o → h.outcome_of o ≡ Done e → IsFair (program_args p) c e
-  done_fair (Ok y) e l is = let same : y ≡ e = cc in subst (IsFair (program_args p) c) same l
-  done_fair (Err k) e l is = absurd cc
+    from_state : (most : ℕ) (f : Flow) (t : State) → d.Sound Asked c.serial most (length c.fields) (h.reads p c) (exit Asked c.serial most (length c.fields) 0 f) t → IsFairFor most c (h.effects_of f t c.fresh)
+    from_state most f t k = record {
+      order = record {
+        rises = k.low;
+        once = k.once;
+        low = k.below;
+        high = k.above;
+        messages = each_more (d.IsGoodMessage Asked c.me c.reply c.serial t.serial most) (IsGoodMessage c.me c.reply c.serial t.serial most) t.messages (ordered c.me c.reply c.serial t.serial most) k.messages;
+        joins = k.joins;
+        owed_once = k.owed_once;
+        passed = λ some. passed f (k.caller some);
+        names = k.names;
+        count = k.count;
+      };
+      args = each_more (d.IsGoodMessage Asked c.me c.reply c.serial t.serial most) (λ m. EachOf IsLawfulPiece m.args) t.messages (λ m g. each_more (d.IsGoodPiece Asked c.serial t.serial) IsLawfulPiece m.args (lawful_piece c.serial t.serial) g.args) k.messages;
+      actors = k.actors;
+      creations = k.creations;
+      fields = k.fields;
+    }
+      where
+        passed : (f : Flow) → owed (address c.reply) t.messages t.joins ≤ exit Asked c.serial most (length c.fields) 0 f → owed (address c.reply) t.messages t.joins ≤ passes (h.answer_of f)
+        passed Next l = l
+        passed (Returned v) l = l
+        passed Passed l = omega (arith, l)
+
+    unchanged_fair : (most : ℕ) → IsFairFor most c (h.unchanged c)
+    unchanged_fair most = from_state most Next (h.started [] c.fields c.serial) (start_sound most c.serial (h.reads p c) [] c.fields refl tt sound.fields)
+
+    abbrev Leaves : ℕ → Checked Effects → Type 0
+    Leaves most (Ok e) = IsFairFor most c e
+    Leaves most (Err k) = Unit {0}
+
+    ran_fair : (most : ℕ) (o : Option Handler) → IfAny (λ x. body_args x.body ≤ most) o → Leaves most (h.ran o p c)
+    ran_fair most None l = unchanged_fair most
+    ran_fair most (Some x) l = at (block x.body (h.reads p c) u) (block_fair Asked c.serial most (length c.fields) x.body l (h.reads p c) 0 (λ q. refl) able u start).holds
+      where
+        u : State
+        u = h.started (h.parameters p.behaviors x.params c.args) c.fields c.serial
+
+        start : d.Sound Asked c.serial most (length c.fields) (h.reads p c) 0 u
+        start = start_sound most c.serial (h.reads p c) (h.parameters p.behaviors x.params c.args) c.fields refl (parameters_good c.serial c.serial p.behaviors x.params c.args sound.args) sound.fields
+
+        at : (o : Checked (Flow × State)) → After (λ f t. d.Reach Asked c.serial most (length c.fields) (h.reads p c) (exit Asked c.serial most (length c.fields) 0 f) u t × FlowOk Asked c.serial most (length c.fields) (h.reads p c) f t) o → Leaves most (and_then o (λ z. Ok (h.effects_of z.0 z.1 c.fresh)))
+        at (Ok z) r = from_state most z.0 z.1 r.0.sound
+        at (Err k) r = tt
+
+    handlers_low : (b : Behavior) (i most : ℕ) → greatest (map (λ x. body_args x.body) (handlers_of b)) ≤ most → IfAny (λ x. body_args x.body ≤ most) (slice_get (handlers_of b) i)
+    handlers_low b i most l = any_more (slice_get (handlers_of b) i) (most_at (λ x. body_args x.body) (handlers_of b) i)
+      where
+        any_more : (o : Option Handler) → IfAny (λ x. body_args x.body ≤ greatest (map (λ x. body_args x.body) (handlers_of b))) o → IfAny (λ x. body_args x.body ≤ most) o
+        any_more None z = tt
+        any_more (Some x) z = omega (arith, z, l)
+
+    ran_in_fair : (most : ℕ) (o : Option Behavior) → IfAny (λ b. greatest (map (λ x. body_args x.body) (handlers_of b)) ≤ most) o → Leaves most (h.ran_in o p c)
+    ran_in_fair most None l = unchanged_fair most
+    ran_in_fair most (Some b) l = ran_fair most (slice_get (handlers_of b) c.handler) (handlers_low b c.handler most l)
+
+    moved_fair : (most : ℕ) (o : Option Ual) → Leaves most (h.moved o c)
+    moved_fair most None = tt
+    moved_fair most (Some l) = unchanged_fair most
+
+    run_fair : Leaves (program_args p) (h.run p c)
+    unfolding program_args
+    run_fair = late (nat_lt 18446744073709547520 c.serial)
+      where
+        here : (b : Bool) → Leaves (program_args p) (if b then h.migrated c else h.ran_in (slice_get p.behaviors c.behavior) p c)
+        here true = moved_fair (program_args p) (ual_of (h.first_text c.args))
+        here false = ran_in_fair (program_args p) (slice_get p.behaviors c.behavior) (most_at (λ b. greatest (map (λ x. body_args x.body) (handlers_of b))) p.behaviors c.behavior)
+
+        late : (b : Bool) → Leaves (program_args p) (if b then Err TooManyMessages else h.ran_from p c)
+        late true = tt
+        late false = here (nat_eq c.handler 65535)
+
+    done_fair : (o : Checked Effects) (e : Effects) → Leaves (program_args p) o → h.outcome_of o ≡ Done e → IsFairFor (program_args p) c e
+    done_fair (Ok y) e l is = let same : y ≡ e = cc in subst (IsFairFor (program_args p) c) same l
+    done_fair (Err k) e l is = absurd cc
+
+-- ---- the laws
+
+-- where it is not asked for, all is legal
+unasked : (vs : List Value) → EachOf (Lawful ⊥) vs
+unasked [] = tt
+unasked (v ∷ vs) = (λ q. absurd q, unasked vs)
+
+-- where it is asked for, it is known
+known : (vs : List Value) → EachOf (Lawful (Unit {0})) vs → EachOf Legal vs
+known vs l = each_more (Lawful (Unit {0})) Legal vs (λ v z. z tt) l
+
+asked : (vs : List Value) → EachOf Legal vs → EachOf (Lawful (Unit {0})) vs
+asked vs l = each_more Legal (Lawful (Unit {0})) vs (λ v z. λ q. z) l
+
+legal_piece : (y : Piece) → IsLawfulPiece (Unit {0}) y → IsLegalPiece y
+legal_piece (Known v) g = g tt
+legal_piece (Token n) g = tt
+
+pub handlers_orderly : HandlersAreOrderly
+unfolding h.handle
+handlers_orderly p c e old is =
+    let sound : IsSoundFor ⊥ c = record { fields = unasked c.fields; args = unasked c.args; reply = old; me = λ q. absurd q; names = λ q. absurd q } in
+    (done_fair ⊥ p c sound (h.run p c) e (run_fair ⊥ p c sound) is).order
 
 pub handlers_fair : HandlersAreFair
 unfolding h.handle
-handlers_fair p c e sound is = done_fair p c sound (h.run p c) e (run_fair p c sound) is
+handlers_fair p c e good is =
+    let sound : IsSoundFor (Unit {0}) c = record { fields = asked c.fields good.fields; args = asked c.args good.args; reply = good.reply; me = λ q. good.me; names = λ q. good.names } in
+    let fair = done_fair (Unit {0}) p c sound (h.run p c) e (run_fair (Unit {0}) p c sound) is in
+    record {
+      order = fair.order;
+      args = each_more (λ m. EachOf (IsLawfulPiece (Unit {0})) m.args) (λ m. EachOf IsLegalPiece m.args) e.messages (λ m g. each_more (IsLawfulPiece (Unit {0})) IsLegalPiece m.args legal_piece g) fair.args;
+      actors = each_more (λ a. EachOf (Lawful (Unit {0})) a.fields) (λ a. EachOf Legal a.fields) e.actors (λ a l. known a.fields l) fair.actors;
+      creations = each_more (λ x. EachOf (Lawful (Unit {0})) x.fields) (λ x. EachOf Legal x.fields) e.creations (λ x l. known x.fields l) fair.creations;
+      fields = known e.fields fair.fields;
+    }

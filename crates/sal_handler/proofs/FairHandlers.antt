@@ -11,7 +11,7 @@ use Rattle.sal_handler.specs.declared.state.Flow.TheVariants.{Next, Returned}
 use Rattle.sal_handler.specs.Evaluation.{pure}
 use Rattle.sal_ast.specs.Sorts.{is_void_join}
 use Rattle.sal_value.specs.declared.value.Value.TheVariants.{Null}
-use Rattle.sal_handler.proofs.Legal.{legal_null}
+use Rattle.sal_handler.proofs.Lawful.{lawful_null}
 use Rattle.sal_handler.specs.Scopes.{scoped, scope_of}
 use Rattle.sal_handler.proofs.Sound as d
 use Rattle.sal_handler.proofs.FairExpressions as x
@@ -49,51 +49,51 @@ chain_rolled : (z : Chain-F Stage Stmt Chain) → chain_args (roll-Chain z) ≡ 
 unfolding stage_args stmt_args chain_args
 chain_rolled z = fold-roll-Chain ℕ ℕ ℕ args_of_stage args_of_stmt args_of_chain z
 
-module _ (from most width : ℕ) where
+module _ (Asked : Type 0) (from most width : ℕ) where
   abbrev G : StageSense → Type 0
-  G x = stage_args x.0 ≤ most → y.StageFair from most width x.1
+  G x = stage_args x.0 ≤ most → y.StageFair Asked from most width x.1
 
   abbrev T : Sense → Type 0
-  T x = stmt_args x.0 ≤ most → RunFair from most width x.1
+  T x = stmt_args x.0 ≤ most → RunFair Asked from most width x.1
 
   abbrev C : ChainSense → Type 0
-  C x = chain_args x.0 ≤ most → EachOf (y.StageFair from most width) x.1
+  C x = chain_args x.0 ≤ most → EachOf (y.StageFair Asked from most width) x.1
 
-  runs_of : (list : List Sense) → EachOf T list → greatest (map stmt_args (map part list)) ≤ most → EachOf (RunFair from most width) (map doing list)
+  runs_of : (list : List Sense) → EachOf T list → greatest (map stmt_args (map part list)) ≤ most → EachOf (RunFair Asked from most width) (map doing list)
   runs_of [] f l = tt
   runs_of (x ∷ xs) f l = (f.0 (omega (arith, l)), runs_of xs f.1 (omega (arith, l)))
 
-  stages_of : (list : List StageSense) → EachOf G list → greatest (map stage_args (map part list)) ≤ most → EachOf (y.StageFair from most width) (map doing list)
+  stages_of : (list : List StageSense) → EachOf G list → greatest (map stage_args (map part list)) ≤ most → EachOf (y.StageFair Asked from most width) (map doing list)
   stages_of [] f l = tt
   stages_of (x ∷ xs) f l = (f.0 (omega (arith, l)), stages_of xs f.1 (omega (arith, l)))
 
   stage_fair : (x : Stage-F StageSense Sense ChainSense) → OfStage G T C x → G (stage_step x)
-  stage_fair (Stage-F.Message m) f l = y.message_fair from most width m (subst (λ n. n ≤ most) (stage_rolled (Stage-F.Message m)) l)
-  stage_fair (Stage-F.Join at body) f l = λ r. j.join_fair from most width (λ s. is_void_join (map part body) (scope_of r s)) (t.blocked (map doing body)) (s.blocked_fair from most width (map doing body) (runs_of body f (subst (λ n. n ≤ most) (stage_rolled (stage_parts (Stage-F.Join at body))) l))) r
+  stage_fair (Stage-F.Message m) f l = y.message_fair Asked from most width m (subst (λ n. n ≤ most) (stage_rolled (Stage-F.Message m)) l)
+  stage_fair (Stage-F.Join at body) f l = λ r. j.join_fair Asked from most width (λ s. is_void_join (map part body) (scope_of r s)) (t.blocked (map doing body)) (s.blocked_fair Asked from most width (map doing body) (runs_of body f (subst (λ n. n ≤ most) (stage_rolled (stage_parts (Stage-F.Join at body))) l))) r
 
   abbrev low : (x : Stmt-F StageSense Sense ChainSense) → Type 0
   low x = args_of_stmt (map-Stmt Stage Stmt Chain ℕ ℕ ℕ stage_args stmt_args chain_args (stmt_parts x)) ≤ most
 
-  stmt_by : (z : Stmt-F StageSense Sense ChainSense) → OfStmt G T C z → low z → RunFair from most width (stmt_run z)
-  stmt_by (Stmt-F.Empty at) f l r p entry able u h = d.fair_pure from most width r (exit from most width p) (FlowOk from most width r) u Next h tt
-  stmt_by (Stmt-F.Block at list) f l r p entry able u h = s.blocked_fair from most width (map doing list) (runs_of list f l) r p entry able u h
-  stmt_by (Stmt-F.Declare y) f l r p entry able u h = s.goes_on from most width r p (s.Done from most width) u (t.declared y r) (s.declared_fair from most width y r p able u h)
-  stmt_by (Stmt-F.Assign a) f l r p entry able u h = s.goes_on from most width r p (s.Done from most width) u (t.assigned a r) (s.assigned_fair from most width a r p able u h)
+  stmt_by : (z : Stmt-F StageSense Sense ChainSense) → OfStmt G T C z → low z → RunFair Asked from most width (stmt_run z)
+  stmt_by (Stmt-F.Empty at) f l r p entry able u h = d.fair_pure Asked from most width r (exit Asked from most width p) (FlowOk Asked from most width r) u Next h tt
+  stmt_by (Stmt-F.Block at list) f l r p entry able u h = s.blocked_fair Asked from most width (map doing list) (runs_of list f l) r p entry able u h
+  stmt_by (Stmt-F.Declare y) f l r p entry able u h = s.goes_on Asked from most width r p (s.Done Asked from most width) u (t.declared y r) (s.declared_fair Asked from most width y r p able u h)
+  stmt_by (Stmt-F.Assign a) f l r p entry able u h = s.goes_on Asked from most width r p (s.Done Asked from most width) u (t.assigned a r) (s.assigned_fair Asked from most width a r p able u h)
   stmt_by (Stmt-F.If at test first None) f l r p entry able u h =
-      x.keeps_then from most width r p (s.OfTest from most width) (exit from most width p) (FlowOk from most width r) u (t.truth test r) (λ b. if b then scoped (first.1 r) else pure Next) (s.truth_fair from most width test r p able u h) (λ b v mv k q.
-      d.fair_if from most width r (exit from most width p) (FlowOk from most width r) v b (scoped (first.1 r)) (pure Next)
-      (s.scoped_fair from most width r p (first.1 r) v (f.0 l r p entry able v k)) (d.fair_pure from most width r (exit from most width p) (FlowOk from most width r) v Next k tt))
+      x.keeps_then Asked from most width r p (s.OfTest Asked from most width) (exit Asked from most width p) (FlowOk Asked from most width r) u (t.truth test r) (λ b. if b then scoped (first.1 r) else pure Next) (s.truth_fair Asked from most width test r p able u h) (λ b v mv k q.
+      d.fair_if Asked from most width r (exit Asked from most width p) (FlowOk Asked from most width r) v b (scoped (first.1 r)) (pure Next)
+      (s.scoped_fair Asked from most width r p (first.1 r) v (f.0 l r p entry able v k)) (d.fair_pure Asked from most width r (exit Asked from most width p) (FlowOk Asked from most width r) v Next k tt))
   stmt_by (Stmt-F.If at test first (Some second)) f l r p entry able u h =
-      x.keeps_then from most width r p (s.OfTest from most width) (exit from most width p) (FlowOk from most width r) u (t.truth test r) (λ b. if b then scoped (first.1 r) else scoped (second.1 r)) (s.truth_fair from most width test r p able u h) (λ b v mv k q.
-      d.fair_if from most width r (exit from most width p) (FlowOk from most width r) v b (scoped (first.1 r)) (scoped (second.1 r))
-      (s.scoped_fair from most width r p (first.1 r) v (f.0 (omega (arith, l)) r p entry able v k)) (s.scoped_fair from most width r p (second.1 r) v (f.1 (omega (arith, l)) r p entry able v k)))
+      x.keeps_then Asked from most width r p (s.OfTest Asked from most width) (exit Asked from most width p) (FlowOk Asked from most width r) u (t.truth test r) (λ b. if b then scoped (first.1 r) else scoped (second.1 r)) (s.truth_fair Asked from most width test r p able u h) (λ b v mv k q.
+      d.fair_if Asked from most width r (exit Asked from most width p) (FlowOk Asked from most width r) v b (scoped (first.1 r)) (scoped (second.1 r))
+      (s.scoped_fair Asked from most width r p (first.1 r) v (f.0 (omega (arith, l)) r p entry able v k)) (s.scoped_fair Asked from most width r p (second.1 r) v (f.1 (omega (arith, l)) r p entry able v k)))
   stmt_by (Stmt-F.While at test body) f l r p entry able u h =
-      s.looped_fair from most width t.tests (t.truth test r) (scoped (body.1 r)) r p (λ v k. s.truth_fair from most width test r p able v k) (λ v k. s.scoped_fair from most width r p (body.1 r) v (f l r p entry able v k)) u h
-  stmt_by (Stmt-F.For at first test next body) f l r p entry able u h = s.for_fair from most width first test next body.1 (f l) r p entry able u h
+      s.looped_fair Asked from most width t.tests (t.truth test r) (scoped (body.1 r)) r p (λ v k. s.truth_fair Asked from most width test r p able v k) (λ v k. s.scoped_fair Asked from most width r p (body.1 r) v (f l r p entry able v k)) u h
+  stmt_by (Stmt-F.For at first test next body) f l r p entry able u h = s.for_fair Asked from most width first test next body.1 (f l) r p entry able u h
   stmt_by (Stmt-F.Return at value) f l r p entry able u h =
-      x.keeps_then from most width r p (s.OfValue from most width) (exit from most width p) (FlowOk from most width r) u (t.first_value value Null r) (λ v. pure (Returned v)) (s.first_fair from most width value Null legal_null r p able u h) (λ v w mv k q. d.fair_pure from most width r (exit from most width p) (FlowOk from most width r) w (Returned v) k q)
-  stmt_by (Stmt-F.Token at name c) f l r p entry able u h = s.named_fair from most width name.text c.1 (f l) r p entry able u h
-  stmt_by (Stmt-F.Chain c passed) f l r p entry able u h = s.ended_fair from most width passed c.1 (f l) r p entry able u h
+      x.keeps_then Asked from most width r p (s.OfValue Asked from most width) (exit Asked from most width p) (FlowOk Asked from most width r) u (t.first_value value Null r) (λ v. pure (Returned v)) (s.first_fair Asked from most width value Null (lawful_null Asked) r p able u h) (λ v w mv k q. d.fair_pure Asked from most width r (exit Asked from most width p) (FlowOk Asked from most width r) w (Returned v) k q)
+  stmt_by (Stmt-F.Token at name c) f l r p entry able u h = s.named_fair Asked from most width name.text c.1 (f l) r p entry able u h
+  stmt_by (Stmt-F.Chain c passed) f l r p entry able u h = s.ended_fair Asked from most width passed c.1 (f l) r p entry able u h
 
   stmt_fair : (z : Stmt-F StageSense Sense ChainSense) → OfStmt G T C z → T (stmt_step z)
   stmt_fair z f l = stmt_by z f (subst (λ n. n ≤ most) (stmt_rolled (stmt_parts z)) l)
@@ -101,12 +101,12 @@ module _ (from most width : ℕ) where
   chain_fair : (z : Chain-F StageSense Sense ChainSense) → EachOf G z.stages → C (chain_step z)
   chain_fair z f l = stages_of z.stages f (subst (λ n. n ≤ most) (chain_rolled (chain_parts z)) l)
 
-  pub exec_fair : (z : Stmt) → stmt_args z ≤ most → RunFair from most width (exec z)
+  pub exec_fair : (z : Stmt) → stmt_args z ≤ most → RunFair Asked from most width (exec z)
   exec_fair z l = of_stmt G T C stage_fair stmt_fair chain_fair z (subst (λ y. stmt_args y ≤ most) (sym (stmt_part z)) l)
 
-  execs_fair : (body : List Stmt) → body_args body ≤ most → EachOf (RunFair from most width) (map exec body)
+  execs_fair : (body : List Stmt) → body_args body ≤ most → EachOf (RunFair Asked from most width) (map exec body)
   execs_fair [] l = tt
   execs_fair (z ∷ zs) l = (exec_fair z (omega (arith, l)), execs_fair zs (omega (arith, l)))
 
-  pub block_fair : (body : List Stmt) → body_args body ≤ most → RunFair from most width (block body)
-  block_fair body l = s.blocked_fair from most width (map exec body) (execs_fair body l)
+  pub block_fair : (body : List Stmt) → body_args body ≤ most → RunFair Asked from most width (block body)
+  block_fair body l = s.blocked_fair Asked from most width (map exec body) (execs_fair body l)

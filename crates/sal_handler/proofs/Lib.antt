@@ -9,6 +9,7 @@ pub mod FairJoins
 pub mod FairMessages
 pub mod FairStatements
 pub mod Induction
+pub mod Lawful
 pub mod Legal
 pub mod Listed
 pub mod Sending

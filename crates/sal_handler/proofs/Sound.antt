@@ -21,7 +21,8 @@ use Rattle.sal_handler.specs.declared.state.State.{State}
 use Rattle.sal_handler.specs.Evaluation.{Checked, and_then, Eval}
 use Rattle.sal_handler.specs.Scopes.{Reads, fresh_name}
 use Rattle.sal_handler.specs.Expressions.{Make}
-use Rattle.sal_handler.specs.Fair.{EachOf, is_number, taken, IsWithin, Legal, IsGoodPiece, IsNew, IsOwedWell, IsGoodMessage, owes, owed, AreNamed, IsOld}
+use Rattle.sal_handler.specs.Fair.{EachOf, is_number, taken, IsWithin, IsNew, IsOwedWell, owes, owed, AreNamed, IsOld}
+use Rattle.sal_handler.proofs.Lawful.{Lawful}
 use Rattle.sal_handler.proofs.After.{After, then_after, after_more, lift_after}
 use Rattle.sal_handler.proofs.Induction.{IfAny}
 use Rattle.sal_handler.proofs.Addresses.{total_append, each_append, each_more, number_most, number_apart, by_number, owes_most, owes_by, owes_apart, some_address, token_token, token_place, place_place, old_token, old_place}
@@ -32,12 +33,24 @@ taken_in k s = taken k s.messages s.joins s.creations
 abbrev pub owed_in : List ℕ → State → ℕ
 owed_in a s = owed a s.messages s.joins
 
-abbrev pub IsGoodHeld : ℕ → ℕ → Held → Type 0
-IsGoodHeld from to (held.Value v) = Legal v
-IsGoodHeld from to (held.Token n) = IsWithin from to n
+-- a value that is legal where that is asked for, or a token of these numbers
+abbrev pub IsGoodPiece : Type 0 → ℕ → ℕ → Piece → Type 0
+IsGoodPiece Asked from to (Known v) = Lawful Asked v
+IsGoodPiece Asked from to (Token n) = IsWithin from to n
 
-abbrev pub IsGoodLocal : ℕ → ℕ → Local → Type 0
-IsGoodLocal from to l = IsGoodHeld from to l.held
+pub record IsGoodMessage (Asked : Type 0) (me : Name) (caller : Reply) (from to most : ℕ) (m : Message) : Type 0 where
+  pub maker : m.maker ≡ me
+  pub args : EachOf (IsGoodPiece Asked from to) m.args
+  pub few : length m.args ≤ most
+  pub after : EachOf (IsWithin from to) m.after
+  pub reply : IsOwedWell me caller from to m.reply
+
+abbrev pub IsGoodHeld : Type 0 → ℕ → ℕ → Held → Type 0
+IsGoodHeld Asked from to (held.Value v) = Lawful Asked v
+IsGoodHeld Asked from to (held.Token n) = IsWithin from to n
+
+abbrev pub IsGoodLocal : Type 0 → ℕ → ℕ → Local → Type 0
+IsGoodLocal Asked from to l = IsGoodHeld Asked from to l.held
 
 abbrev pub IsGoodInside : ℕ → ℕ → Inside → Type 0
 IsGoodInside from to i = IsWithin from to i.join × IfAny (IsWithin from to) i.before
@@ -47,17 +60,17 @@ abbrev pub NotInnermost : ℕ → List Inside → Type 0
 NotInnermost n [] = Unit {0}
 NotInnermost n (i ∷ is) = n ≡ i.join → ⊥
 
-abbrev pub MakesLegal : Make → Type 0
-MakesLegal make = (n : ℕ) (args fields : List Value) → EachOf Legal args → make n args ≡ Ok fields → EachOf Legal fields
+abbrev pub MakesLegal : Type 0 → Make → Type 0
+MakesLegal Asked make = (n : ℕ) (args fields : List Value) → EachOf (Lawful Asked) args → make n args ≡ Ok fields → EachOf (Lawful Asked) fields
 
 -- what a handler reads, from these numbers on
-pub record Able (from : ℕ) (r : Reads) : Type 0 where
-  pub me : name_is_spelled r.me ≡ true
-  pub fresh : EachOf (λ n. name_is_spelled n ≡ true) r.fresh
+pub record Able (Asked : Type 0) (from : ℕ) (r : Reads) : Type 0 where
+  pub me : Asked → name_is_spelled r.me ≡ true
+  pub fresh : Asked → EachOf (λ n. name_is_spelled n ≡ true) r.fresh
   pub reply : IsOld r.me from r.reply
-  pub make : IfAny MakesLegal r.make
+  pub make : IfAny (MakesLegal Asked) r.make
 
-module _ (from most width : ℕ) where
+module _ (Asked : Type 0) (from most width : ℕ) where
   -- no place of the innermost join is owed from the next one on
   abbrev pub NextPlaces : List Inside → Name → State → Type 0
   NextPlaces [] me s = Unit {0}
@@ -78,13 +91,13 @@ module _ (from most width : ℕ) where
     pub next_places : NextPlaces r.within r.me s
     pub caller : r.reply ≢ Nobody → owed_in (address r.reply) s ≤ passed
     pub within : EachOf (IsGoodInside from s.serial) r.within
-    pub locals : EachOf (IsGoodLocal from s.serial) s.locals
-    pub messages : EachOf (IsGoodMessage r.me r.reply from s.serial most) s.messages
+    pub locals : EachOf (IsGoodLocal Asked from s.serial) s.locals
+    pub messages : EachOf (IsGoodMessage Asked r.me r.reply from s.serial most) s.messages
     pub joins : EachOf (λ j. OwedWell r s.serial j.reply) s.joins
     pub names : AreNamed r.fresh 0 s.actors
-    pub actors : EachOf (λ a. EachOf Legal a.fields) s.actors
-    pub creations : EachOf (λ x. EachOf Legal x.fields) s.creations
-    pub fields : EachOf Legal s.fields
+    pub actors : EachOf (λ a. EachOf (Lawful Asked) a.fields) s.actors
+    pub creations : EachOf (λ x. EachOf (Lawful Asked) x.fields) s.creations
+    pub fields : EachOf (Lawful Asked) s.fields
     pub count : length s.fields ≡ width
 
   -- numbers only rise, joins are only added, and the places of other joins are owed as before
@@ -143,7 +156,7 @@ module _ (from most width : ℕ) where
   if_more a b None le w = tt
   if_more a b (Some n) le w = within_more a b n le w
 
-  pub piece_more : (a b : ℕ) → a ≤ b → (p : Piece) → IsGoodPiece from a p → IsGoodPiece from b p
+  pub piece_more : (a b : ℕ) → a ≤ b → (p : Piece) → IsGoodPiece Asked from a p → IsGoodPiece Asked from b p
   piece_more a b le (Known v) w = w
   piece_more a b le (Token n) w = within_more a b n le w
 
@@ -158,16 +171,16 @@ module _ (from most width : ℕ) where
   owed_more me caller a b le o (inr (inl e)) = inr (inl e)
   owed_more me caller a b le o (inr (inr w)) = inr (inr (new_more me a b le o w))
 
-  pub message_more : (me : Name) (caller : Reply) (a b : ℕ) → a ≤ b → (m : Message) → IsGoodMessage me caller from a most m → IsGoodMessage me caller from b most m
+  pub message_more : (me : Name) (caller : Reply) (a b : ℕ) → a ≤ b → (m : Message) → IsGoodMessage Asked me caller from a most m → IsGoodMessage Asked me caller from b most m
   message_more me caller a b le m g = record {
     maker = g.maker;
-    args = each_more (IsGoodPiece from a) (IsGoodPiece from b) m.args (piece_more a b le) g.args;
+    args = each_more (IsGoodPiece Asked from a) (IsGoodPiece Asked from b) m.args (piece_more a b le) g.args;
     few = g.few;
     after = each_more (IsWithin from a) (IsWithin from b) m.after (λ n w. within_more a b n le w) g.after;
     reply = owed_more me caller a b le m.reply g.reply;
   }
 
-  pub held_more : (a b : ℕ) → a ≤ b → (h : Held) → IsGoodHeld from a h → IsGoodHeld from b h
+  pub held_more : (a b : ℕ) → a ≤ b → (h : Held) → IsGoodHeld Asked from a h → IsGoodHeld Asked from b h
   held_more a b le (held.Value v) w = w
   held_more a b le (held.Token n) w = within_more a b n le w
 
@@ -193,8 +206,8 @@ module _ (from most width : ℕ) where
         next_places = next_same r.within r.me s (record s { serial = s.serial + 1 }) (omega arith) (λ a. refl) h.next_places;
         caller = h.caller;
         within = each_more (IsGoodInside from s.serial) (IsGoodInside from (s.serial + 1)) r.within (inside_more s.serial (s.serial + 1) le) h.within;
-        locals = each_more (IsGoodLocal from s.serial) (IsGoodLocal from (s.serial + 1)) s.locals (λ l w. held_more s.serial (s.serial + 1) le l.held w) h.locals;
-        messages = each_more (IsGoodMessage r.me r.reply from s.serial most) (IsGoodMessage r.me r.reply from (s.serial + 1) most) s.messages (message_more r.me r.reply s.serial (s.serial + 1) le) h.messages;
+        locals = each_more (IsGoodLocal Asked from s.serial) (IsGoodLocal Asked from (s.serial + 1)) s.locals (λ l w. held_more s.serial (s.serial + 1) le l.held w) h.locals;
+        messages = each_more (IsGoodMessage Asked r.me r.reply from s.serial most) (IsGoodMessage Asked r.me r.reply from (s.serial + 1) most) s.messages (message_more r.me r.reply s.serial (s.serial + 1) le) h.messages;
         joins = each_more (λ j. OwedWell r s.serial j.reply) (λ j. OwedWell r (s.serial + 1) j.reply) s.joins (λ j w. owed_more r.me r.reply s.serial (s.serial + 1) le j.reply w) h.joins;
         names = h.names;
         actors = h.actors;
@@ -291,7 +304,7 @@ module _ (from most width : ℕ) where
       next (i ∷ is) = λ k l. owes_apart (address (Place r.me i.join k)) Nobody (λ e. absurd cc)
 
   -- owed to the number's own token
-  pub owing_token : (r : Reads) (p : ℕ) (s : State) (n : ℕ) → Able from r → Sound r p s → Fresh r n s → Owing r p p s (Tok r.me n)
+  pub owing_token : (r : Reads) (p : ℕ) (s : State) (n : ℕ) → Able Asked from r → Sound r p s → Fresh r n s → Owing r p p s (Tok r.me n)
   owing_token r p s n able h f = record {
     well = inr (inr (refl, f.within));
     once = only_once r p s (Tok r.me n) h f.token;
@@ -310,7 +323,7 @@ module _ (from most width : ℕ) where
       next (i ∷ is) = λ k l. apart i.join k
 
   -- owed to whom the handled message owes its reply, which wasn't passed on yet
-  pub owing_caller : (r : Reads) (s : State) → Able from r → Sound r 0 s → Owing r 0 1 s r.reply
+  pub owing_caller : (r : Reads) (s : State) → Able Asked from r → Sound r 0 s → Owing r 0 1 s r.reply
   owing_caller r s able h = record {
     well = inr (inl refl);
     once = once;
@@ -333,7 +346,7 @@ module _ (from most width : ℕ) where
           ]
 
   -- owed to the next place of the innermost join
-  pub owing_place : (r : Reads) (p : ℕ) (s : State) (j : ℕ) → Able from r → Sound r p s → IsWithin from s.serial j → owed_in (address (Place r.me j s.places)) s ≡ 0 → ((k : ℕ) → NotInnermost k r.within → k ≡ j → ⊥) →
+  pub owing_place : (r : Reads) (p : ℕ) (s : State) (j : ℕ) → Able Asked from r → Sound r p s → IsWithin from s.serial j → owed_in (address (Place r.me j s.places)) s ≡ 0 → ((k : ℕ) → NotInnermost k r.within → k ≡ j → ⊥) →
       ((t : State) → t.places ≡ s.places + 1 → NextOwes r.within r.me t (Place r.me j s.places)) → Owing r p p (record s { places = s.places + 1 }) (Place r.me j s.places)
   owing_place r p s j able h w none_yet other next = record {
     well = inr (inr (refl, w));
@@ -399,7 +412,7 @@ module _ (from most width : ℕ) where
   message_owed m s a = omega (arith, total_append (λ m. owes a m.reply) s.messages (m ∷ []))
 
   -- a message is sent
-  pub sound_message : (r : Reads) (p q : ℕ) (s : State) (m : Message) → Sound r p s → Fresh r m.serial s → Owing r p q s m.reply → IsGoodMessage r.me r.reply from s.serial most m → Sound r q (with_message m s)
+  pub sound_message : (r : Reads) (p q : ℕ) (s : State) (m : Message) → Sound r p s → Fresh r m.serial s → Owing r p q s m.reply → IsGoodMessage Asked r.me r.reply from s.serial most m → Sound r q (with_message m s)
   sound_message r p q s m h f o g =
       let added = number_added r p s (with_message m s) m.serial h f (message_taken m s) in
       record {
@@ -414,7 +427,7 @@ module _ (from most width : ℕ) where
         caller = λ some. omega (arith, message_owed m s (address r.reply), o.caller some);
         within = h.within;
         locals = h.locals;
-        messages = each_append (IsGoodMessage r.me r.reply from s.serial most) s.messages (m ∷ []) h.messages (g, tt);
+        messages = each_append (IsGoodMessage Asked r.me r.reply from s.serial most) s.messages (m ∷ []) h.messages (g, tt);
         joins = h.joins;
         names = h.names;
         actors = h.actors;
@@ -439,7 +452,7 @@ module _ (from most width : ℕ) where
   abbrev pub with_actor : Actor → State → State
   with_actor a s = record s { actors = s.actors ++ a ∷ [] }
 
-  pub sound_actor : (r : Reads) (p : ℕ) (s : State) (a : Actor) → Sound r p s → a.name ≡ fresh_name r.fresh (length s.actors) → EachOf Legal a.fields → Sound r p (with_actor a s)
+  pub sound_actor : (r : Reads) (p : ℕ) (s : State) (a : Actor) → Sound r p s → a.name ≡ fresh_name r.fresh (length s.actors) → EachOf (Lawful Asked) a.fields → Sound r p (with_actor a s)
   sound_actor r p s a h e l = record {
     low = h.low;
     once = h.once;
@@ -455,7 +468,7 @@ module _ (from most width : ℕ) where
     messages = h.messages;
     joins = h.joins;
     names = named_more r.fresh 0 s.actors a h.names (e ∙ ap (fresh_name r.fresh) (omega arith));
-    actors = each_append (λ a. EachOf Legal a.fields) s.actors (a ∷ []) h.actors (l, tt);
+    actors = each_append (λ a. EachOf (Lawful Asked) a.fields) s.actors (a ∷ []) h.actors (l, tt);
     creations = h.creations;
     fields = h.fields;
     count = h.count;
@@ -467,7 +480,7 @@ module _ (from most width : ℕ) where
   creation_taken : (x : Creation) (s : State) (k : ℕ) → taken_in k (with_creation x s) ≡ taken_in k s + is_number k x.serial
   creation_taken x s k = omega (arith, total_append (λ x. is_number k x.serial) s.creations (x ∷ []))
 
-  pub sound_creation : (r : Reads) (p : ℕ) (s : State) (x : Creation) → Sound r p s → Fresh r x.serial s → EachOf Legal x.fields → Sound r p (with_creation x s)
+  pub sound_creation : (r : Reads) (p : ℕ) (s : State) (x : Creation) → Sound r p s → Fresh r x.serial s → EachOf (Lawful Asked) x.fields → Sound r p (with_creation x s)
   sound_creation r p s x h f l =
       let added = number_added r p s (with_creation x s) x.serial h f (creation_taken x s) in
       record {
@@ -486,7 +499,7 @@ module _ (from most width : ℕ) where
         joins = h.joins;
         names = h.names;
         actors = h.actors;
-        creations = each_append (λ x. EachOf Legal x.fields) s.creations (x ∷ []) h.creations (l, tt);
+        creations = each_append (λ x. EachOf (Lawful Asked) x.fields) s.creations (x ∷ []) h.creations (l, tt);
         fields = h.fields;
         count = h.count;
       }
@@ -500,7 +513,7 @@ module _ (from most width : ℕ) where
   abbrev pub with_locals : List Local → State → State
   with_locals ls s = record s { locals = ls }
 
-  pub sound_locals : (r : Reads) (p : ℕ) (s : State) (ls : List Local) → Sound r p s → EachOf (IsGoodLocal from s.serial) ls → Sound r p (with_locals ls s)
+  pub sound_locals : (r : Reads) (p : ℕ) (s : State) (ls : List Local) → Sound r p s → EachOf (IsGoodLocal Asked from s.serial) ls → Sound r p (with_locals ls s)
   sound_locals r p s ls h l = record {
     low = h.low;
     once = h.once;
@@ -525,7 +538,7 @@ module _ (from most width : ℕ) where
   abbrev pub with_fields : List Value → State → State
   with_fields vs s = record s { fields = vs }
 
-  pub sound_fields : (r : Reads) (p : ℕ) (s : State) (vs : List Value) → Sound r p s → EachOf Legal vs → length vs ≡ length s.fields → Sound r p (with_fields vs s)
+  pub sound_fields : (r : Reads) (p : ℕ) (s : State) (vs : List Value) → Sound r p s → EachOf (Lawful Asked) vs → length vs ≡ length s.fields → Sound r p (with_fields vs s)
   sound_fields r p s vs h l e = record {
     low = h.low;
     once = h.once;

@@ -57,10 +57,14 @@ IsWithin from to n = (from ≤ n) × (n < to)
 abbrev pub Legal : Value → Type 0
 Legal v = is_legal v ≡ true
 
--- a legal value, or a token of this actor's new numbers
-abbrev pub IsGoodPiece : ℕ → ℕ → Piece → Type 0
-IsGoodPiece from to (Known v) = Legal v
-IsGoodPiece from to (Token n) = IsWithin from to n
+-- a token is waited for only if it is of this actor's new numbers
+abbrev pub WaitsWithin : ℕ → ℕ → Piece → Type 0
+WaitsWithin from to (Known v) = Unit {0}
+WaitsWithin from to (Token n) = IsWithin from to n
+
+abbrev pub IsLegalPiece : Piece → Type 0
+IsLegalPiece (Known v) = Legal v
+IsLegalPiece (Token n) = Unit {0}
 
 -- the token of a new number, or a place of a new join
 abbrev pub IsNew : Name → ℕ → ℕ → Reply → Type 0
@@ -75,7 +79,7 @@ IsOwedWell me caller from to r = (r ≡ Nobody) ⊎ ((r ≡ caller) ⊎ IsNew me
 
 pub record IsGoodMessage (me : Name) (caller : Reply) (from to most : ℕ) (m : Message) : Type 0 where
   pub maker : m.maker ≡ me
-  pub args : EachOf (IsGoodPiece from to) m.args
+  pub args : EachOf (WaitsWithin from to) m.args
   pub few : length m.args ≤ most
   pub after : EachOf (IsWithin from to) m.after
   pub reply : IsOwedWell me caller from to m.reply
@@ -157,25 +161,35 @@ pub record IsSoundCall (c : Call) : Type 0 where
   pub me : name_is_spelled c.me ≡ true
   pub names : EachOf (λ n. name_is_spelled n ≡ true) c.names
 
-pub record IsFair (most : ℕ) (c : Call) (e : Effects) : Type 0 where
+-- numbers, what is waited for, and to whom replies are owed
+pub record IsOrderly (most : ℕ) (c : Call) (e : Effects) : Type 0 where
   -- numbers are taken from the actor's next number on, each once, below its new next number
   pub rises : c.serial ≤ e.serial
   pub once : (k : ℕ) → taken k e.messages e.joins e.creations ≤ 1
   pub low : (k : ℕ) → k < c.serial → taken k e.messages e.joins e.creations ≡ 0
   pub high : (k : ℕ) → e.serial ≤ k → taken k e.messages e.joins e.creations ≡ 0
-  -- messages are the actor's own and wait only for such numbers; their known values are legal
+  -- messages are the actor's own and wait only for such numbers
   pub messages : EachOf (IsGoodMessage c.me c.reply c.serial e.serial most) e.messages
   pub joins : EachOf (λ j. IsOwedWell c.me c.reply c.serial e.serial j.reply) e.joins
   -- each address is owed at most once, and the handled message's only where the reply was passed on
   pub owed_once : (r : Reply) → r ≢ Nobody → owed (address r) e.messages e.joins ≤ 1
   pub passed : c.reply ≢ Nobody → owed (address c.reply) e.messages e.joins ≤ passes e.answer
-  -- new actors take the names in order, and all fields are legal
+  -- new actors take the names in order, and fields stay as many as they were
   pub names : AreNamed c.names 0 e.actors
+  pub count : length e.fields ≡ length c.fields
+
+pub record IsFair (most : ℕ) (c : Call) (e : Effects) : Type 0 where
+  pub order : IsOrderly most c e
+  -- known values and fields are legal
+  pub args : EachOf (λ m. EachOf IsLegalPiece m.args) e.messages
   pub actors : EachOf (λ a. EachOf Legal a.fields) e.actors
   pub creations : EachOf (λ x. EachOf Legal x.fields) e.creations
   pub fields : EachOf Legal e.fields
-  pub count : length e.fields ≡ length c.fields
 
--- The effects of every handler of every program are fair, where the call is sound.
+-- The effects of every handler of every program are orderly, where the reply is old,
+abbrev pub HandlersAreOrderly : Type 0
+HandlersAreOrderly = (p : Program) (c : Call) (e : Effects) → IsOld c.me c.serial c.reply → handle p c ≡ Done e → IsOrderly (program_args p) c e
+
+-- and fair, where the call is sound.
 abbrev pub HandlersAreFair : Type 0
 HandlersAreFair = (p : Program) (c : Call) (e : Effects) → IsSoundCall c → handle p c ≡ Done e → IsFair (program_args p) c e

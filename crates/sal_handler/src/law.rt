@@ -1,4 +1,4 @@
-ghost use Rattle.sal_handler.specs.Fair.{HandlersAreFair};
+ghost use Rattle.sal_handler.specs.Fair.{HandlersAreFair, HandlersAreOrderly};
 ghost use Rattle.sal_handler.specs.Loops.{LoopsStopThemselves};
 ghost use Rattle.sal_handler.specs.Prints.{ChainsOfPrintsAreSent};
 
@@ -13,8 +13,13 @@ pub fn loops_stop_themselves()
     ensures { LoopsStopThemselves }
 {}
 
-/// The effects of every handler are fair: its numbers, what its messages wait for, and to whom replies
+/// The effects of every handler are orderly: its numbers, what its messages wait for, and to whom replies
 /// are owed.
+pub fn handlers_are_orderly()
+    ensures { HandlersAreOrderly }
+{}
+
+/// They are fair, where the call's values are legal: then all that they leave is legal, too.
 pub fn handlers_are_fair()
     ensures { HandlersAreFair }
 {}
