@@ -7,6 +7,7 @@ pub mod Step
 pub mod Possible
 pub mod Run
 pub mod Laws
+pub mod Once
 pub mod Prints
 pub mod Listed
 pub mod Changes

@@ -1,4 +1,5 @@
 ghost use Rattle.sal_source.specs.Laws.{RepliesCommute};
+ghost use Rattle.sal_source.specs.Once.{JoinsResolveOnce, MessagesAreTakenOnce};
 ghost use Rattle.sal_source.specs.Prints.{ChainsOfPrintsRun};
 
 /// Two replies may be given in either order: only the order of answers tells which came first.
@@ -10,4 +11,14 @@ pub fn replies_commute()
 /// step is possible.
 pub fn chains_of_prints_run()
     ensures { ChainsOfPrintsRun }
+{}
+
+/// In every run of every program no message is handled or printed twice.
+pub fn messages_are_taken_once()
+    ensures { MessagesAreTakenOnce }
+{}
+
+/// In every run of every program no join resolves twice.
+pub fn joins_resolve_once()
+    ensures { JoinsResolveOnce }
 {}

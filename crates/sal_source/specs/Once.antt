@@ -1,0 +1,52 @@
+-- What runs of programs do only once: no message is handled or printed twice, and no join resolves twice.
+use Rattle.std.specs.Prelude.{◌≡◌, ℕ, ◌≤◌, ◌<◌, nat_le, Bool, false, if◌then◌else◌, List, ◌++◌, Option, Some, None}
+use Rattle.std.specs.FinMap as fm
+use Rattle.sal_value.specs.declared.name.Name.{Name}
+use Rattle.sal_value.specs.declared.name.Name.TheVariants.{Anon, Uan, Outside}
+use Rattle.sal_ast.specs.declared.program.Program.{Program}
+use Rattle.sal_mail.specs.declared.effects.Actor.{Actor}
+use Rattle.sal_source.specs.declared.state.Setup.{Setup}
+use Rattle.sal_source.specs.declared.state.Step.{Step}
+use Rattle.sal_source.specs.declared.state.Step.TheVariants.{Handle, Print, Bind, Refuse, Post}
+use Rattle.sal_source.specs.Table.{Table, words_eq, total}
+use Rattle.sal_source.specs.Keys.{name_key, made_key}
+use Rattle.sal_source.specs.Configuration.{Configuration}
+use Rattle.sal_source.specs.Run.{play}
+
+-- ---- messages
+
+abbrev pub one_if : Bool → ℕ
+one_if b = if b then 1 else 0
+
+-- whether the step handles or prints the message with this maker and number, as a number
+abbrev pub takes : Name → ℕ → Step → ℕ
+takes maker serial (Handle m n fresh) = one_if (words_eq (made_key maker serial) (made_key m n))
+takes maker serial (Print m n) = one_if (words_eq (made_key maker serial) (made_key m n))
+takes maker serial (Bind m n) = 0
+takes maker serial (Refuse m n) = 0
+takes maker serial (Post number to behavior handler args) = 0
+
+-- Every message is handled or printed at most once in a run.
+abbrev pub MessagesAreTakenOnce : Type 0
+MessagesAreTakenOnce = (p : Program) (setup : Setup) (ss : List Step) (end : Configuration) → play p setup ss ≡ Some end → (maker : Name) (serial : ℕ) → total (takes maker serial) ss ≤ 1
+
+-- ---- joins
+
+abbrev pub number_of : Option (Actor × ℕ) → ℕ
+number_of None = 0
+number_of (Some a) = a.1
+
+-- the next number of who makes messages: an actor's own, or 0 before there is the actor; a post has number 0
+abbrev pub next_number : Table (Actor × ℕ) → ℕ → Name → ℕ
+next_number actors posted (Anon theatre n) = number_of (fm.get actors (name_key (Anon theatre n)))
+next_number actors posted (Uan u) = number_of (fm.get actors (name_key (Uan u)))
+next_number actors posted (Outside n) = one_if (nat_le n posted)
+
+abbrev pub is_open : Name → ℕ → Configuration → Bool
+is_open owner number c = fm.contains_key c.waiting.joins (made_key owner number)
+
+-- Once a join's number is taken and the join isn't open, it has resolved, and is never open again.
+abbrev pub JoinsResolveOnce : Type 0
+JoinsResolveOnce =
+    (p : Program) (setup : Setup) (ss more : List Step) (c d : Configuration) → play p setup ss ≡ Some c → play p setup (ss ++ more) ≡ Some d
+    → (owner : Name) (number : ℕ) → number < next_number c.actors c.posted owner → is_open owner number c ≡ false → is_open owner number d ≡ false
