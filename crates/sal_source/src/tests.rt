@@ -6,27 +6,40 @@ use std::alloc::Global;
 use std::test::Fail;
 
 fn started(alloc: Global) -> Result<Config, NoMemory> {
-    let fields = List::new(alloc);
     let began = Began::Actor {
         behavior: 0,
         handler: 0,
-        fields,
+        fields: List::new(alloc),
     };
     Config::start(alloc, began, List::new(alloc))
 }
 
-/// The effects of a handler that only answers.
-fn answering(alloc: Global, value: Value) -> Effects {
-    Effects {
+/// What a handler leaves that answers this value.
+fn leaving(
+    alloc: Global,
+    value: Value,
+    messages: List<Message>,
+    joins: List<Join>,
+    creations: List<Creation>,
+) -> Outcome {
+    Outcome::Done(Effects {
         fields: List::new(alloc),
         answer: Answer::Value(value),
-        messages: List::new(alloc),
-        joins: List::new(alloc),
+        messages,
+        joins,
         actors: List::new(alloc),
-        creations: List::new(alloc),
+        creations,
         serial: 5,
         fresh: 0,
-    }
+    })
+}
+
+fn act(alloc: Global, config: &mut Config, outcome: Outcome) -> Result<bool, NoMemory> {
+    config.handled(alloc, &Name::Outside(0), 0, &[], outcome)
+}
+
+fn fault(config: &Config) -> Option<FaultKind> {
+    config.faults().get(0).map(|fault| fault.kind)
 }
 
 fn message(alloc: Global, serial: u64, behavior: u16, reply: Reply) -> Message {
@@ -43,47 +56,63 @@ fn message(alloc: Global, serial: u64, behavior: u16, reply: Reply) -> Message {
     }
 }
 
-fn join_of_three(alloc: Global) -> Result<Join, NoMemory> {
+/// Messages that owe their replies to the places 2, 2, 1 and 0 of a join.
+fn replying(alloc: Global) -> Result<List<Message>, NoMemory> {
+    let mut messages = List::new(alloc);
+    for (serial, place) in [(1, 2), (2, 2), (3, 1), (4, 0)] {
+        let reply = Reply::Place(Name::Anon(0, 0), 0, place);
+        messages.push(message(alloc, serial, 0, reply))?;
+    }
+    Ok(messages)
+}
+
+fn three_places(alloc: Global) -> Result<List<Option<Value>>, NoMemory> {
     let mut places = List::new(alloc);
     for _ in 0..3 {
         places.push(None)?;
     }
-    Ok(Join {
+    Ok(places)
+}
+
+fn one_join(alloc: Global) -> Result<List<Join>, NoMemory> {
+    let places = three_places(alloc)?;
+    let mut joins = List::new(alloc);
+    joins.push(Join {
         number: 0,
         places,
         void: false,
         reply: Reply::Outside(7),
-    })
+    })?;
+    Ok(joins)
 }
 
-/// A join of three places, and messages that owe their replies to its places 2, 2, 1 and 0.
-fn with_join(alloc: Global) -> Result<Effects, NoMemory> {
-    let mut effects = answering(alloc, Value::Null);
-    effects.joins.push(join_of_three(alloc)?)?;
-    for (serial, place) in [(1, 2), (2, 2), (3, 1), (4, 0)] {
-        let reply = Reply::Place(Name::Anon(0, 0), 0, place);
-        effects.messages.push(message(alloc, serial, 0, reply))?;
-    }
-    Ok(effects)
+fn opens_join(alloc: Global, config: &mut Config) -> Result<bool, NoMemory> {
+    let messages = replying(alloc)?;
+    let joins = one_join(alloc)?;
+    let outcome = leaving(alloc, Value::Null, messages, joins, List::new(alloc));
+    act(alloc, config, outcome)
 }
 
-fn handled(
-    alloc: Global,
-    config: &mut Config,
-    serial: u64,
-    effects: Effects,
-) -> Result<bool, NoMemory> {
-    config.handled(
+fn replies(alloc: Global, config: &mut Config, serial: u64, value: i32) -> Result<bool, NoMemory> {
+    let value = Value::Int(value);
+    let outcome = leaving(
         alloc,
-        &Name::Anon(0, 0),
-        serial,
-        &[],
-        Outcome::Done(effects),
-    )
+        value,
+        List::new(alloc),
+        List::new(alloc),
+        List::new(alloc),
+    );
+    config.handled(alloc, &Name::Anon(0, 0), serial, &[], outcome)
 }
 
-fn act(alloc: Global, config: &mut Config, outcome: Outcome) -> Result<bool, NoMemory> {
-    config.handled(alloc, &Name::Outside(0), 0, &[], outcome)
+/// Whether the join stays open for three replies, of which one comes to a full place.
+fn stays_open(alloc: Global, config: &mut Config) -> Result<bool, NoMemory> {
+    for (serial, value) in [(1, 3), (2, 9), (3, 2)] {
+        if !replies(alloc, config, serial, value)? {
+            return Ok(false);
+        }
+    }
+    Ok(config.answers().is_empty())
 }
 
 fn one_to_three(alloc: Global) -> Result<Value, NoMemory> {
@@ -94,20 +123,21 @@ fn one_to_three(alloc: Global) -> Result<Value, NoMemory> {
     Ok(Value::Array(items))
 }
 
+fn is_answered(alloc: Global, config: &Config) -> Result<bool, NoMemory> {
+    let expected = one_to_three(alloc)?;
+    match config.answers().get(0) {
+        Some((number, value)) => Ok(*number == 7 && *value == expected),
+        None => Ok(false),
+    }
+}
+
 #[test]
 fn a_join_keeps_each_value_at_its_place(rt: HostRuntime) -> Result<(), Fail> {
     let mut config = started(rt.alloc())?;
-    let effects = with_join(rt.alloc())?;
-    assert!(rt; act(rt.alloc(), &mut config, Outcome::Done(effects))?);
-    for (serial, value) in [(1, 3), (2, 9), (3, 2)] {
-        let effects = answering(rt.alloc(), Value::Int(value));
-        assert!(rt; handled(rt.alloc(), &mut config, serial, effects)?);
-        assert_eq!(rt; config.answers().len(), 0);
-    }
-    let last = answering(rt.alloc(), Value::Int(1));
-    assert!(rt; handled(rt.alloc(), &mut config, 4, last)?);
-    let expected = (7, one_to_three(rt.alloc())?);
-    assert_eq!(rt; config.answers().get(0), Some(&expected));
+    assert!(rt; opens_join(rt.alloc(), &mut config)?);
+    assert!(rt; stays_open(rt.alloc(), &mut config)?);
+    assert!(rt; replies(rt.alloc(), &mut config, 4, 1)?);
+    assert!(rt; is_answered(rt.alloc(), &config)?);
     assert_eq!(rt; config.pending(), (0, 0, 0));
     Ok(())
 }
@@ -116,34 +146,36 @@ fn a_join_keeps_each_value_at_its_place(rt: HostRuntime) -> Result<(), Fail> {
 fn a_trap_leaves_its_fault_alone(rt: HostRuntime) -> Result<(), Fail> {
     let mut config = started(rt.alloc())?;
     assert!(rt; act(rt.alloc(), &mut config, Outcome::Trap(Trap::ZeroDivisor))?);
-    let kind = config.faults().get(0).map(|fault| fault.kind);
-    assert_eq!(rt; kind, Some(FaultKind::Trap(Trap::ZeroDivisor)));
+    assert_eq!(rt; fault(&config), Some(FaultKind::Trap(Trap::ZeroDivisor)));
     assert_eq!(rt; config.pending(), (0, 0, 0));
-    assert_eq!(rt; config.actors().get(0).map(|actor| actor.1), Some(0));
     Ok(())
+}
+
+fn sends_to_other(alloc: Global, config: &mut Config) -> Result<bool, NoMemory> {
+    let mut messages = List::new(alloc);
+    messages.push(message(alloc, 1, 3, Reply::Outside(7)))?;
+    let outcome = leaving(
+        alloc,
+        Value::Null,
+        messages,
+        List::new(alloc),
+        List::new(alloc),
+    );
+    act(alloc, config, outcome)
 }
 
 #[test]
 fn a_message_of_another_behavior_meets_no_handler(rt: HostRuntime) -> Result<(), Fail> {
     let mut config = started(rt.alloc())?;
-    let mut effects = answering(rt.alloc(), Value::Null);
-    effects
-        .messages
-        .push(message(rt.alloc(), 1, 3, Reply::Outside(7)))?;
-    assert!(rt; act(rt.alloc(), &mut config, Outcome::Done(effects))?);
-    assert!(rt; config.no_handler(rt.alloc(), &Name::Anon(0, 0), 1, &[])?);
-    let kind = config.faults().get(0).map(|fault| fault.kind);
-    assert_eq!(rt; kind, Some(FaultKind::NoHandler));
-    assert_eq!(rt; config.answers().len(), 0);
+    assert!(rt; sends_to_other(rt.alloc(), &mut config)?);
+    assert!(rt; replies(rt.alloc(), &mut config, 1, 1)?);
+    assert_eq!(rt; fault(&config), Some(FaultKind::NoHandler));
+    assert!(rt; config.answers().is_empty());
     Ok(())
 }
 
-fn host(alloc: Global) -> Result<Text, NoMemory> {
-    Text::from_text(alloc, "names.example")
-}
-
 fn universal(alloc: Global) -> Result<Uan, NoMemory> {
-    let host = host(alloc)?;
+    let host = Text::from_text(alloc, "names.example")?;
     let path = Text::from_text(alloc, "a")?;
     Ok(Uan {
         host,
@@ -153,7 +185,7 @@ fn universal(alloc: Global) -> Result<Uan, NoMemory> {
 }
 
 fn services(alloc: Global) -> Result<List<Authority>, NoMemory> {
-    let host = host(alloc)?;
+    let host = Text::from_text(alloc, "names.example")?;
     let mut services = List::new(alloc);
     services.push(Authority { host, port: 3030 })?;
     Ok(services)
@@ -171,41 +203,51 @@ fn creation(alloc: Global, serial: u64) -> Result<Creation, NoMemory> {
 }
 
 /// Two creations under one name.
-fn with_creations(alloc: Global) -> Result<Effects, NoMemory> {
-    let mut effects = answering(alloc, Value::Null);
+fn creates_twice(alloc: Global, config: &mut Config) -> Result<bool, NoMemory> {
+    let mut creations = List::new(alloc);
     for serial in 1..3 {
-        effects.creations.push(creation(alloc, serial)?)?;
+        creations.push(creation(alloc, serial)?)?;
     }
-    Ok(effects)
+    let outcome = leaving(
+        alloc,
+        Value::Null,
+        List::new(alloc),
+        List::new(alloc),
+        creations,
+    );
+    act(alloc, config, outcome)
+}
+
+/// Whether one of the two is bound, and no more.
+fn is_bound_once(alloc: Global, config: &mut Config) -> Result<bool, NoMemory> {
+    let services = services(alloc)?;
+    let first = config.bind(alloc, services.as_slice(), &Name::Anon(0, 0), 1)?;
+    let second = config.bind(alloc, services.as_slice(), &Name::Anon(0, 0), 2)?;
+    Ok(first && !second)
 }
 
 #[test]
 fn a_name_is_bound_once(rt: HostRuntime) -> Result<(), Fail> {
     let mut config = started(rt.alloc())?;
-    let effects = with_creations(rt.alloc())?;
-    assert!(rt; act(rt.alloc(), &mut config, Outcome::Done(effects))?);
-    let services = services(rt.alloc())?;
-    let there = services.as_slice();
-    assert!(rt; !config.refuse(rt.alloc(), &Name::Anon(0, 0), 1)?);
-    assert!(rt; !config.bind(rt.alloc(), &[], &Name::Anon(0, 0), 1)?);
-    assert!(rt; config.bind(rt.alloc(), there, &Name::Anon(0, 0), 1)?);
-    assert!(rt; !config.bind(rt.alloc(), there, &Name::Anon(0, 0), 2)?);
+    assert!(rt; creates_twice(rt.alloc(), &mut config)?);
+    assert!(rt; is_bound_once(rt.alloc(), &mut config)?);
     assert!(rt; config.refuse(rt.alloc(), &Name::Anon(0, 0), 2)?);
-    let kind = config.faults().get(0).map(|fault| fault.kind);
-    assert_eq!(rt; kind, Some(FaultKind::NameTaken));
+    assert_eq!(rt; fault(&config), Some(FaultKind::NameTaken));
     assert_eq!(rt; config.actors().len(), 2);
     Ok(())
 }
 
+fn posts(alloc: Global, config: &mut Config, number: u64) -> Result<bool, NoMemory> {
+    let to = universal(alloc)?;
+    config.post(alloc, true, number, &to, 0, 1, &[])
+}
+
 #[test]
-fn a_post_waits_for_its_actor(rt: HostRuntime) -> Result<(), Fail> {
+fn posts_have_rising_numbers(rt: HostRuntime) -> Result<(), Fail> {
     let mut config = started(rt.alloc())?;
-    let to = universal(rt.alloc())?;
-    let args = one_to_three(rt.alloc())?;
-    assert!(rt; !config.post(rt.alloc(), true, 0, &to, 0, 1, &[])?);
-    assert!(rt; !config.post(rt.alloc(), false, 1, &to, 0, 1, &[])?);
-    assert!(rt; config.post(rt.alloc(), true, 1, &to, 0, 1, &[args])?);
-    assert!(rt; !config.post(rt.alloc(), true, 1, &to, 0, 1, &[])?);
+    assert!(rt; !posts(rt.alloc(), &mut config, 0)?);
+    assert!(rt; posts(rt.alloc(), &mut config, 1)?);
+    assert!(rt; !posts(rt.alloc(), &mut config, 1)?);
     assert_eq!(rt; config.pending(), (2, 0, 0));
     Ok(())
 }
