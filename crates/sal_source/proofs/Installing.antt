@@ -13,6 +13,7 @@ use Rattle.sal_mail.specs.declared.message.Message.{Message}
 use Rattle.sal_mail.specs.declared.message.Join.{Join}
 use Rattle.sal_mail.specs.declared.effects.Actor.{Actor}
 use Rattle.sal_mail.specs.declared.effects.Effects.{Effects}
+use Rattle.sal_mail.specs.Message.{is_full}
 use Rattle.sal_handler.specs.Fair.{EachOf, is_number, taken, IsWithin, IsNew, IsOwedWell, IsGoodMessage, AreNamed, IsOld, IsOrderly}
 use Rattle.sal_handler.specs.Fair as f
 use Rattle.sal_handler.proofs.Addresses.{each_more}
@@ -89,10 +90,10 @@ module _ (c : Configuration) (kept : KeptIn c) (m : Message) (a : Actor × ℕ) 
 
   -- ---- what it made
 
-  before_me : next_number c.actors c.posted me ≡ a.1
+  pub before_me : next_number c.actors c.posted me ≡ a.1
   before_me = next_actor c.actors c.posted me actor ∙ ap number_of at
 
-  after_me : next_number after.actors after.posted me ≡ e.serial
+  pub after_me : next_number after.actors after.posted me ≡ e.serial
   after_me = next_actor after.actors after.posted me actor ∙ number_here (put_actors e.actors c.actors) (name_key me) (name_key me) left refl
 
   of_owner : (owner : Name) → owner ≡ me → next_number after.actors after.posted owner ≡ e.serial
@@ -149,7 +150,7 @@ module _ (c : Configuration) (kept : KeptIn c) (m : Message) (a : Actor × ℕ) 
         keyed = keyed;
         waits = record {
           messages = each_put (Fits after.actors after.posted) (Fits after.actors after.posted) e.messages c.waiting.messages (each_more GoodOne (λ x. Fits after.actors after.posted (message_key x) x.reply) e.messages (λ x g. fits_new x.maker x.serial x.reply g.0.maker g.1 g.0.reply) good_messages) old.messages;
-          joins = each_opened (Fits after.actors after.posted) (Fits after.actors after.posted) me e.joins c.waiting.joins (each_more GoodJoin (λ j. Fits after.actors after.posted (made_key me j.number) j.reply) e.joins (λ j g. fits_new me j.number j.reply refl g.1 g.0) good_joins) old.joins;
+          joins = each_opened (Fits after.actors after.posted) (Fits after.actors after.posted) me e.joins c.waiting.joins (each_more GoodJoin (λ j. is_full j ≡ false → Fits after.actors after.posted (made_key me j.number) j.reply) e.joins (λ j g o. fits_new me j.number j.reply refl g.1 g.0) good_joins) old.joins;
         };
       }
 
@@ -166,6 +167,6 @@ module _ (c : Configuration) (kept : KeptIn c) (m : Message) (a : Actor × ℕ) 
         grows = grows;
         waits = record {
           messages = each_put WasMessage WasJoin e.messages c.waiting.messages (each_more GoodOne (λ x. WasMessage (message_key x) x.reply) e.messages (λ x g. there_new (fm.contains_key c.waiting.messages) x.maker x.serial x.reply g.0.maker g.1) good_messages) old.messages;
-          joins = each_opened WasMessage WasJoin me e.joins c.waiting.joins (each_more GoodJoin (λ j. WasJoin (made_key me j.number) j.reply) e.joins (λ j g. there_new (fm.contains_key c.waiting.joins) me j.number j.reply refl g.1) good_joins) old.joins;
+          joins = each_opened WasMessage WasJoin me e.joins c.waiting.joins (each_more GoodJoin (λ j. is_full j ≡ false → WasJoin (made_key me j.number) j.reply) e.joins (λ j g o. there_new (fm.contains_key c.waiting.joins) me j.number j.reply refl g.1) good_joins) old.joins;
         };
       }

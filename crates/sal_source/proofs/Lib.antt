@@ -1,4 +1,5 @@
 pub mod Adding
+pub mod Answering
 pub mod Commute
 pub mod Ends
 pub mod Fuel
@@ -18,6 +19,7 @@ pub mod Same
 pub mod Sorted
 pub mod Stepping
 pub mod Tables
+pub mod Telling
 pub mod Universal
 pub mod Waits
 pub mod Weights

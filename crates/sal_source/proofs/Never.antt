@@ -23,7 +23,7 @@ use Rattle.sal_source.specs.Keys.{made_key, message_key, actor_key}
 use Rattle.sal_source.specs.Configuration.{Configuration, start_actor, act_message, first_of, first}
 use Rattle.sal_source.specs.Step.{step}
 use Rattle.sal_source.specs.Run.{steps}
-use Rattle.sal_source.specs.Once.{one_if, next_number, takes, is_open, MessagesAreTakenOnce, JoinsResolveOnce}
+use Rattle.sal_source.specs.Once.{one_if, next_number, takes, is_open, MessagesAreTakenOnce, JoinsResolveOnce, StepsAnswerOnce}
 use Rattle.sal_source.proofs.Tables.{words_anti, words_tells, get-table_of}
 use Rattle.sal_source.proofs.Given.{contains_keys, keys_none}
 use Rattle.sal_source.proofs.Once.{Each, each_none}
@@ -184,3 +184,9 @@ resolve_once q setup ss more c d e f owner number l shut =
     let start = kept_first setup.words p.begun in
     let here = along p setup (program_args q) (handlers_orderly q) ss (first p setup) c start e in
     closed p setup (program_args q) (handlers_orderly q) more c d here (parted p setup (program_args q) (handlers_orderly q) ss more (first p setup) c d e f) owner number l shut
+
+pub answer_once : StepsAnswerOnce
+answer_once q setup ss one c d e is =
+    let p = meaning_of q in
+    let here = along p setup (program_args q) (handlers_orderly q) ss (first p setup) c (kept_first setup.words p.begun) e in
+    (one_step c here p (program_args q) (handlers_orderly q) setup one d is).keeps.few

@@ -78,7 +78,7 @@ module _ (P Q : Words → Reply → Type 0) where
     joins = each_written (OfJoin Q) w.joins (made_key owner join) (join_after at value (fm.get w.joins (made_key owner join))) h.joins (after (made_key owner join) at value (fm.get w.joins (made_key owner join)) (λ j is. h.joins.at (made_key owner join) j is));
   }
 
-  waits_one : (g : Given) (w : Waiting) → Waits w → Waits (give_one g w)
+  pub waits_one : (g : Given) (w : Waiting) → Waits w → Waits (give_one g w)
   waits_one g w h = at (is_legal g.1)
     where
       at : (b : Bool) → Waits (cond b (give_to g.0 g.1 w) w)
@@ -101,10 +101,10 @@ module _ (P Q : Words → Reply → Type 0) where
   each_put [] t f e = e
   each_put (m ∷ ms) t f e = each_written (OfMessage P) (put_messages ms t) (message_key m) (Some (undelayed m)) (each_put ms t f.1 e) (λ x is. let eq : undelayed m ≡ x = cc in subst (λ z. P (message_key m) z.reply) eq f.0)
 
-  pub each_opened : (owner : Name) (js : List Join) (t : Table (Name × Join)) → EachOf (λ j. Q (made_key owner j.number) j.reply) js → Each (OfJoin Q) t → Each (OfJoin Q) (put_joins owner js t)
+  pub each_opened : (owner : Name) (js : List Join) (t : Table (Name × Join)) → EachOf (λ j. is_full j ≡ false → Q (made_key owner j.number) j.reply) js → Each (OfJoin Q) t → Each (OfJoin Q) (put_joins owner js t)
   each_opened owner [] t f e = e
-  each_opened owner (j ∷ js) t f e = by (is_full j) (each_opened owner js t f.1 e)
+  each_opened owner (j ∷ js) t f e = by (is_full j) refl (each_opened owner js t f.1 e)
     where
-      by : (b : Bool) → Each (OfJoin Q) (put_joins owner js t) → Each (OfJoin Q) (if b then put_joins owner js t else put_join owner j (put_joins owner js t))
-      by true rest = rest
-      by false rest = each_written (OfJoin Q) (put_joins owner js t) (made_key owner j.number) (Some (owner, j)) rest (λ x is. let eq : (owner, j) ≡ x = cc in subst (λ z. Q (made_key owner j.number) z.1.reply) eq f.0)
+      by : (b : Bool) → is_full j ≡ b → Each (OfJoin Q) (put_joins owner js t) → Each (OfJoin Q) (if b then put_joins owner js t else put_join owner j (put_joins owner js t))
+      by true shut rest = rest
+      by false shut rest = each_written (OfJoin Q) (put_joins owner js t) (made_key owner j.number) (Some (owner, j)) rest (λ x is. let eq : (owner, j) ≡ x = cc in subst (λ z. Q (made_key owner j.number) z.1.reply) eq (f.0 shut))

@@ -1,5 +1,5 @@
 -- Each step of a run keeps what runs keep, and takes the message that it handles or prints.
-use Rattle.std.proofs.Common.{◌≡◌, ◌⊎◌, inl, inr, ℕ, ◌≤◌, ◌<◌, Bool, true, false, ◌&&◌, not, if◌then◌else◌, List, [], ◌∷◌, Option, Some, None, refl, sym, ap, subst, ◌∙◌, arith}
+use Rattle.std.proofs.Common.{◌≡◌, ◌⊎◌, inl, inr, ℕ, ◌+◌, ◌≤◌, ◌<◌, Bool, true, false, ◌&&◌, not, if◌then◌else◌, List, [], ◌∷◌, length, Option, Some, None, refl, sym, ap, subst, ◌∙◌, arith, length-append}
 use Rattle.std.specs.Prelude.{nat_le, nat_lt, nat_eq}
 use Rattle.std.proofs.lemmas.Bool.{le-leb, leb-true, ltb-true, lt-leb}
 use Rattle.std.specs.List.{list_all}
@@ -31,7 +31,7 @@ use Rattle.sal_source.specs.declared.state.Step.TheVariants.{Handle, Print, Bind
 use Rattle.sal_source.specs.Table.{Words, words_eq}
 use Rattle.sal_source.specs.Keys.{name_key, made_key}
 use Rattle.sal_source.specs.Configuration.{Configuration}
-use Rattle.sal_source.specs.Give.{Given, give_all}
+use Rattle.sal_source.specs.Give.{Given, give_all, told_after}
 use Rattle.sal_source.specs.Posts.{fits_post, may_be_posted, post_message}
 use Rattle.sal_source.specs.Step as s
 use Rattle.sal_source.specs.Once.{one_if, number_of, next_number, takes}
@@ -40,11 +40,13 @@ use Rattle.sal_source.proofs.Given.{contains_keys, keys_write}
 use Rattle.sal_source.proofs.Once.{each_written, each_put}
 use Rattle.sal_source.proofs.Keeping.{IsActor, same_made, Fits, WasThere, IsKeyed, KeptIn, Grows, GoesTo, goes_then, goes_same, grown, waits_more, kept_settled, goes_settled, kept_without, goes_without, gone, there_is, is_there, split, flipped, number_there, none_number}
 use Rattle.sal_source.proofs.Installing.{old_reply, kept_installed, goes_installed}
+use Rattle.sal_source.proofs.Telling.{one_given, few_given}
 
--- a step that keeps what runs keep
+-- a step that keeps what runs keep, and tells one answer at most
 pub record Keeps (c d : Configuration) : Type 0 where
   pub kept : KeptIn d
   pub goes : GoesTo c d
+  pub few : length d.answers ≤ length c.answers + 1
 
 abbrev pub is_pending : Configuration → Name → ℕ → Bool
 is_pending c maker serial = fm.contains_key c.waiting.messages (made_key maker serial)
@@ -86,9 +88,9 @@ module _ (c : Configuration) (kept : KeptIn c) where
             let none : is_pending left maker serial ≡ false = gone c.waiting (made_key maker serial) in
             absurd cc
 
-    took : (d : Configuration) → KeptIn d → GoesTo left d → Took maker serial c d
-    took d kept' goes = record {
-      keeps = record { kept = kept'; goes = goes_then c.actors left.actors d.actors c.posted left.posted d.posted c.waiting left.waiting d.waiting goes_left goes };
+    took : (d : Configuration) → KeptIn d → GoesTo left d → length d.answers ≤ length c.answers + 1 → Took maker serial c d
+    took d kept' goes few = record {
+      keeps = record { kept = kept'; goes = goes_then c.actors left.actors d.actors c.posted left.posted d.posted c.waiting left.waiting d.waiting goes_left goes; few = few };
       there = is_there c.waiting.messages (made_key maker serial) m found;
       gone = stays_gone d goes;
     }
@@ -98,18 +100,18 @@ module _ (c : Configuration) (kept : KeptIn c) where
 
     -- with a fault
     faulted : (fresh : List Name) (kind : FaultKind) (d : Configuration) → s.unnamed fresh (s.add_fault kind maker serial left) ≡ Some d → Took maker serial c d
-    faulted [] kind d e = let same : s.add_fault kind maker serial left ≡ d = cc in subst (Took maker serial c) same (took (s.add_fault kind maker serial left) (record { named = kept_left.named; keyed = kept_left.keyed; waits = kept_left.waits }) (record { grows = same_left.grows; waits = same_left.waits }))
+    faulted [] kind d e = let same : s.add_fault kind maker serial left ≡ d = cc in subst (Took maker serial c) same (took (s.add_fault kind maker serial left) (record { named = kept_left.named; keyed = kept_left.keyed; waits = kept_left.waits }) (record { grows = same_left.grows; waits = same_left.waits }) (omega arith))
     faulted (n ∷ ns) kind d e = absurd cc
 
     -- with replies
-    gave : (gs : List Given) (mid d : Configuration) → KeptIn mid → GoesTo left mid → Some (give_all gs mid) ≡ Some d → Took maker serial c d
-    gave gs mid d kept' goes e =
+    gave : (gs : List Given) (mid d : Configuration) → KeptIn mid → GoesTo left mid → mid.answers ≡ c.answers → length (told_after gs mid.waiting) ≤ 1 → Some (give_all gs mid) ≡ Some d → Took maker serial c d
+    gave gs mid d kept' goes old few e =
         let same : give_all gs mid ≡ d = cc in
-        subst (Took maker serial c) same (took (give_all gs mid) (kept_settled mid.actors mid.given mid.posted mid.waiting gs kept') (goes_settled left.actors mid.actors left.posted mid.posted left.waiting mid.waiting gs goes))
+        subst (Took maker serial c) same (took (give_all gs mid) (kept_settled mid.actors mid.given mid.posted mid.waiting gs kept') (goes_settled left.actors mid.actors left.posted mid.posted left.waiting mid.waiting gs goes) (omega (arith, length-append mid.answers (told_after gs mid.waiting), ap length old, few)))
 
     printed : (t : Target) (d : Configuration) → s.print_to t m left ≡ Some d → Took maker serial c d
     printed (target.Actor n) d e = absurd cc
-    printed target.Output d e = gave ((m.reply, v.Null) ∷ []) (s.add_output (s.printed m) left) d (record { named = kept_left.named; keyed = kept_left.keyed; waits = kept_left.waits }) (record { grows = same_left.grows; waits = same_left.waits }) e
+    printed target.Output d e = gave ((m.reply, v.Null) ∷ []) (s.add_output (s.printed m) left) d (record { named = kept_left.named; keyed = kept_left.keyed; waits = kept_left.waits }) (record { grows = same_left.grows; waits = same_left.waits }) refl (one_given left kept_left (m.reply, v.Null)) e
 
     module _ (p : Meaning) (most : ℕ) (orderly : (call : Call) (e : Effects) → IsOld call.me call.serial call.reply → p.outcome call ≡ Done e → IsOrderly most call e) (fresh : List Name) where
       came : (a : Actor × ℕ) → fm.get c.actors (name_key a.0.name) ≡ Some a → IsActor a.0.name → (o : Outcome) → p.outcome (s.call_of m a fresh) ≡ o → (d : Configuration) → s.after_outcome o maker serial fresh m a.0 left ≡ Some d → Took maker serial c d
@@ -120,7 +122,7 @@ module _ (c : Configuration) (kept : KeptIn c) where
           by false fits e = absurd cc
           by true fits e =
               let order = orderly (s.call_of m a fresh) y (old_reply c.actors c.posted a at actor m.reply fit.owed) is in
-              gave (s.step_gives y m.reply) (s.installed y a.0 left) d (kept_installed left kept_left m a fresh y most at actor fit.owed order fits) (goes_installed left kept_left m a fresh y most at actor fit.owed order fits) e
+              gave (s.step_gives y m.reply) (s.installed y a.0 left) d (kept_installed left kept_left m a fresh y most at actor fit.owed order fits) (goes_installed left kept_left m a fresh y most at actor fit.owed order fits) refl (few_given left kept_left m a fresh y most at actor fit.owed order fits) e
 
       met : (n : Name) (o : Option (Actor × ℕ)) → fm.get c.actors (name_key n) ≡ o → (d : Configuration) → s.handled_by p.outcome maker serial fresh m o left ≡ Some d → Took maker serial c d
       met n None is d e = absurd cc
@@ -174,7 +176,7 @@ module _ (c : Configuration) (kept : KeptIn c) where
 
       by : (b : Bool) → (if b then Some there else None) ≡ Some d → Keeps c d
       by false e = absurd cc
-      by true e = let same : there ≡ d = cc in subst (Keeps c) same (record { kept = record { named = kept.named; keyed = kept.keyed; waits = kept.waits }; goes = record { grows = grown c.actors c.posted; waits = goes_same c.actors c.posted c.waiting } })
+      by true e = let same : there ≡ d = cc in subst (Keeps c) same (record { kept = record { named = kept.named; keyed = kept.keyed; waits = kept.waits }; goes = record { grows = grown c.actors c.posted; waits = goes_same c.actors c.posted c.waiting }; few = omega arith })
 
   bound_by : (authorities : List Authority) (maker : Name) (serial : ℕ) (o : Option (Name × Creation)) (d : Configuration) → s.bind authorities maker serial o c ≡ Some d → Keeps c d
   bound_by authorities maker serial None d e = absurd cc
@@ -210,6 +212,7 @@ module _ (c : Configuration) (kept : KeptIn c) where
           waits = waits_more c.actors there.actors c.posted there.posted (grows free) c.waiting kept.waits;
         };
         goes = record { grows = grows free; waits = goes_same c.actors c.posted c.waiting };
+        few = omega arith;
       }
 
       by : (b : Bool) → s.is_served authorities x.1.name && not (s.is_given x.1 c) ≡ b → (if b then Some there else None) ≡ Some d → Keeps c d
@@ -270,6 +273,7 @@ module _ (c : Configuration) (kept : KeptIn c) where
                 joins = same.joins;
               };
             };
+            few = omega arith;
           }
 
       by : (b : Bool) → fits && fits_post c.posted number to behavior args ≡ b → (if b then Some there else None) ≡ Some d → Keeps c d

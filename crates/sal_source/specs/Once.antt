@@ -1,16 +1,19 @@
--- What runs of programs do only once: no message is handled or printed twice, and no join resolves twice.
-use Rattle.std.specs.Prelude.{◌≡◌, ℕ, ◌≤◌, ◌<◌, nat_le, Bool, false, if◌then◌else◌, List, ◌++◌, Option, Some, None}
+-- What runs of programs do only once: no message is handled or printed twice, no join resolves twice, and a
+-- step gives one answer at most.
+use Rattle.std.specs.Prelude.{◌≡◌, ℕ, ◌≤◌, ◌<◌, nat_le, Bool, false, if◌then◌else◌, List, ◌++◌, length, ◌+◌, Option, Some, None}
 use Rattle.std.specs.FinMap as fm
 use Rattle.sal_value.specs.declared.name.Name.{Name}
 use Rattle.sal_value.specs.declared.name.Name.TheVariants.{Anon, Uan, Outside}
 use Rattle.sal_ast.specs.declared.program.Program.{Program}
 use Rattle.sal_mail.specs.declared.effects.Actor.{Actor}
+use Rattle.sal_handler.specs.Fits.{meaning_of}
 use Rattle.sal_source.specs.declared.state.Setup.{Setup}
 use Rattle.sal_source.specs.declared.state.Step.{Step}
 use Rattle.sal_source.specs.declared.state.Step.TheVariants.{Handle, Print, Bind, Refuse, Post}
 use Rattle.sal_source.specs.Table.{Table, words_eq, total}
 use Rattle.sal_source.specs.Keys.{name_key, made_key}
 use Rattle.sal_source.specs.Configuration.{Configuration}
+use Rattle.sal_source.specs.Step.{step}
 use Rattle.sal_source.specs.Run.{play}
 
 -- ---- messages
@@ -50,3 +53,9 @@ abbrev pub JoinsResolveOnce : Type 0
 JoinsResolveOnce =
     (p : Program) (setup : Setup) (ss more : List Step) (c d : Configuration) → play p setup ss ≡ Some c → play p setup (ss ++ more) ≡ Some d
     → (owner : Name) (number : ℕ) → number < next_number c.actors c.posted owner → is_open owner number c ≡ false → is_open owner number d ≡ false
+
+-- ---- answers
+
+-- A step of a run gives at most one answer to the outside.
+abbrev pub StepsAnswerOnce : Type 0
+StepsAnswerOnce = (p : Program) (setup : Setup) (ss : List Step) (one : Step) (c d : Configuration) → play p setup ss ≡ Some c → step (meaning_of p) setup c one ≡ Some d → length d.answers ≤ length c.answers + 1

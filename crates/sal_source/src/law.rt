@@ -1,5 +1,5 @@
 ghost use Rattle.sal_source.specs.Laws.{RepliesCommute};
-ghost use Rattle.sal_source.specs.Once.{JoinsResolveOnce, MessagesAreTakenOnce};
+ghost use Rattle.sal_source.specs.Once.{JoinsResolveOnce, MessagesAreTakenOnce, StepsAnswerOnce};
 ghost use Rattle.sal_source.specs.Prints.{ChainsOfPrintsRun};
 
 /// Two replies may be given in either order: only the order of answers tells which came first.
@@ -21,4 +21,9 @@ pub fn messages_are_taken_once()
 /// In every run of every program no join resolves twice.
 pub fn joins_resolve_once()
     ensures { JoinsResolveOnce }
+{}
+
+/// A step of a run gives at most one answer to the outside.
+pub fn steps_answer_once()
+    ensures { StepsAnswerOnce }
 {}
