@@ -1,5 +1,5 @@
 -- The effects of every handler are fair.
-use Rattle.std.proofs.Common.{◌≡◌, ℕ, zero, suc, ◌+◌, ◌≤◌, max, Bool, true, false, if◌then◌else◌, List, [], ◌∷◌, length, map, Option, Some, None, Ok, Err, refl, sym, subst, arith}
+use Rattle.std.proofs.Common.{◌≡◌, ℕ, zero, suc, ◌+◌, ◌≤◌, inl, inr, Bool, true, false, if◌then◌else◌, List, [], ◌∷◌, length, map, Option, Some, None, Ok, Err, refl, sym, subst, arith}
 use Rattle.std.specs.Prelude.{slice_get, slice_set, nat_lt, nat_eq}
 use Rattle.sal_value.specs.declared.name.Ual.{Ual}
 use Rattle.sal_value.specs.declared.value.Value.{Value}
@@ -9,7 +9,6 @@ use Rattle.sal_ast.specs.declared.expression.Expr.{Expr}
 use Rattle.sal_ast.specs.declared.program.Param.{Param}
 use Rattle.sal_ast.specs.declared.program.Behavior.{Behavior}
 use Rattle.sal_ast.specs.declared.program.Program.{Program}
-use Rattle.sal_ast.specs.Depth.{greatest}
 use Rattle.sal_ast.specs.Members.{Field, Handler, fields_of, handlers_of, constructor_of}
 use Rattle.sal_mail.specs.declared.fault.Trap.TheVariants.{TooManyMessages}
 use Rattle.sal_mail.specs.declared.effects.Effects.{Effects}
@@ -25,7 +24,7 @@ use Rattle.sal_handler.specs.Scopes.{Reads}
 use Rattle.sal_handler.specs.Expressions.{eval}
 use Rattle.sal_handler.specs.Statements.{block}
 use Rattle.sal_handler.specs.Handler as h
-use Rattle.sal_handler.specs.Fair.{EachOf, Legal, WaitsWithin, IsLegalPiece, IsGoodMessage, body_args, program_args, owed, passes, IsOld, IsOrderly, HandlersAreOrderly, HandlersAreFair}
+use Rattle.sal_handler.specs.Fair.{EachOf, IsAmong, all_of, Legal, WaitsWithin, IsLegalPiece, IsGoodMessage, body_sizes, program_sizes, owed, passes, IsOld, IsOrderly, HandlersAreOrderly, HandlersAreFair}
 use Rattle.sal_handler.proofs.After.{After}
 use Rattle.sal_handler.proofs.Induction.{IfAny}
 use Rattle.sal_handler.proofs.Lawful.{Lawful, lawful_null, default_lawful}
@@ -41,7 +40,15 @@ use Rattle.sal_mail.specs.declared.message.Piece.{Piece}
 use Rattle.sal_mail.specs.declared.message.Piece.TheVariants.{Known, Token}
 use Rattle.sal_mail.specs.declared.message.Reply.{Reply}
 use Rattle.sal_mail.specs.declared.message.Message.{Message}
-use Rattle.sal_handler.proofs.Addresses.{each_more}
+use Rattle.sal_handler.proofs.Addresses.{each_more, each_front, each_back}
+
+-- each of these numbers is among the sizes
+abbrev In : List ℕ → List ℕ → Type 0
+In sizes = EachOf (λ n. IsAmong n sizes)
+
+each_itself : (xs : List ℕ) → In xs xs
+each_itself [] = tt
+each_itself (x ∷ xs) = (inl refl, each_more (λ n. IsAmong n xs) (λ n. IsAmong n (x ∷ xs)) xs (λ n h. inr h) (each_itself xs))
 
 module _ (Asked : Type 0) where
   -- ---- how a body starts
@@ -51,8 +58,8 @@ module _ (Asked : Type 0) where
   parameters_good from to behaviors (p ∷ ps) [] l = (lawful_null Asked, parameters_good from to behaviors ps [] tt)
   parameters_good from to behaviors (p ∷ ps) (v ∷ vs) l = (l.0, parameters_good from to behaviors ps vs l.1)
 
-  start_sound : (most from : ℕ) (r : Reads) (locals : List Local) (fields : List Value) → r.within ≡ [] → EachOf (IsGoodLocal Asked from from) locals → EachOf (Lawful Asked) fields → d.Sound Asked from most (length fields) r 0 (h.started locals fields from)
-  start_sound most from r locals fields e l f = record {
+  start_sound : (sizes : List ℕ) (from : ℕ) (r : Reads) (locals : List Local) (fields : List Value) → r.within ≡ [] → EachOf (IsGoodLocal Asked from from) locals → EachOf (Lawful Asked) fields → d.Sound Asked from sizes (length fields) r 0 (h.started locals fields from)
+  start_sound sizes from r locals fields e l f = record {
     low = omega arith;
     once = λ k. omega arith;
     below = λ k le. refl;
@@ -60,7 +67,7 @@ module _ (Asked : Type 0) where
     owed_once = λ a some. omega arith;
     new_tokens = λ k le. refl;
     new_places = λ k i le. refl;
-    next_places = subst (λ is. d.NextPlaces Asked from most (length fields) is r.me (h.started locals fields from)) (sym e) tt;
+    next_places = subst (λ is. d.NextPlaces Asked from sizes (length fields) is r.me (h.started locals fields from)) (sym e) tt;
     caller = λ some. omega arith;
     within = subst (EachOf (d.IsGoodInside from from)) (sym e) tt;
     locals = l;
@@ -79,20 +86,20 @@ module _ (Asked : Type 0) where
   unfolding name_is_spelled
   alone_able behaviors n = record { me = λ q. refl; fresh = λ q. tt; reply = tt; make = tt }
 
-  module _ (most width : ℕ) where
+  module _ (sizes : List ℕ) (width : ℕ) where
     abbrev Keeps : Reads → State → Checked (Unit {0} × State) → Type 0
-    Keeps r u o = d.FairAt Asked 0 most width {A = Unit {0}} r (λ a. 0) (s.Done Asked 0 most width) u o
+    Keeps r u o = d.FairAt Asked 0 sizes width {A = Unit {0}} r (λ a. 0) (s.Done Asked 0 sizes width) u o
 
-    one_initialised : (o : Option Expr) (i : ℕ) (r : Reads) → Able Asked 0 r → (u : State) → d.Sound Asked 0 most width r 0 u → Keeps r u (h.initialised o i r u)
-    one_initialised None i r able u k = d.fair_pure Asked 0 most width r (λ (a : Unit {0}). 0) (s.Done Asked 0 most width) u tt k tt
+    one_initialised : (o : Option Expr) (i : ℕ) (r : Reads) → Able Asked 0 r → (u : State) → d.Sound Asked 0 sizes width r 0 u → Keeps r u (h.initialised o i r u)
+    one_initialised None i r able u k = d.fair_pure Asked 0 sizes width r (λ (a : Unit {0}). 0) (s.Done Asked 0 sizes width) u tt k tt
     one_initialised (Some e) i r able u k =
-        x.keeps_then Asked 0 most width r 0 (s.OfValue Asked 0 most width) (λ (a : Unit {0}). 0) (s.Done Asked 0 most width) u (eval e r) _ (x.eval_fair Asked 0 most width e r 0 able u k) (λ v w mv j l.
-        record { holds = (record { sound = d.sound_fields Asked 0 most width r 0 w (slice_set w.fields i v) j (each_set (Lawful Asked) w.fields i v j.fields l) (set_length w.fields i v); moves = d.moves_quiet Asked 0 most width r w (d.with_fields Asked 0 most width (slice_set w.fields i v) w) (omega arith) refl (λ a. refl) }, tt) })
+        x.keeps_then Asked 0 sizes width r 0 (s.OfValue Asked 0 sizes width) (λ (a : Unit {0}). 0) (s.Done Asked 0 sizes width) u (eval e r) _ (x.eval_fair Asked 0 sizes width e r 0 able u k) (λ v w mv j l.
+        record { holds = (record { sound = d.sound_fields Asked 0 sizes width r 0 w (slice_set w.fields i v) j (each_set (Lawful Asked) w.fields i v j.fields l) (set_length w.fields i v); moves = d.moves_quiet Asked 0 sizes width r w (d.with_fields Asked 0 sizes width (slice_set w.fields i v) w) (omega arith) refl (λ a. refl) }, tt) })
 
-    initialised_fair : (fs : List Field) (i : ℕ) (r : Reads) → Able Asked 0 r → (u : State) → d.Sound Asked 0 most width r 0 u → Keeps r u (h.all_initialised fs i r u)
-    initialised_fair [] i r able u k = d.fair_pure Asked 0 most width r (λ (a : Unit {0}). 0) (s.Done Asked 0 most width) u tt k tt
+    initialised_fair : (fs : List Field) (i : ℕ) (r : Reads) → Able Asked 0 r → (u : State) → d.Sound Asked 0 sizes width r 0 u → Keeps r u (h.all_initialised fs i r u)
+    initialised_fair [] i r able u k = d.fair_pure Asked 0 sizes width r (λ (a : Unit {0}). 0) (s.Done Asked 0 sizes width) u tt k tt
     initialised_fair (f ∷ fs) i r able u k =
-        x.keeps_then Asked 0 most width r 0 (s.Done Asked 0 most width) (λ (a : Unit {0}). 0) (s.Done Asked 0 most width) u (h.initialised f.init i r) (λ _. h.all_initialised fs (i + 1) r) (one_initialised f.init i r able u k) (λ a w mv j q. initialised_fair fs (i + 1) r able w j)
+        x.keeps_then Asked 0 sizes width r 0 (s.Done Asked 0 sizes width) (λ (a : Unit {0}). 0) (s.Done Asked 0 sizes width) u (h.initialised f.init i r) (λ _. h.all_initialised fs (i + 1) r) (one_initialised f.init i r able u k) (λ a w mv j q. initialised_fair fs (i + 1) r able w j)
 
   defaults_legal : (fs : List Field) → EachOf (Lawful Asked) (h.default_fields fs)
   defaults_legal [] = tt
@@ -105,17 +112,17 @@ module _ (Asked : Type 0) where
 
   initial_legal : (b : Behavior) (behaviors : List Behavior) (n : ℕ) (fields : List Value) → h.initial_fields b (h.alone behaviors n) ≡ Ok fields → EachOf (Lawful Asked) fields
   initial_legal b behaviors n fields e =
-      let start = start_sound 0 0 (h.alone behaviors n) [] (h.default_fields (fields_of b)) refl tt (defaults_legal (fields_of b)) in
+      let start = start_sound [] 0 (h.alone behaviors n) [] (h.default_fields (fields_of b)) refl tt (defaults_legal (fields_of b)) in
       fields_left _ (h.all_initialised (fields_of b) 0 (h.alone behaviors n) (h.started [] (h.default_fields (fields_of b)) 0)) fields
-      (initialised_fair 0 (length (h.default_fields (fields_of b))) (fields_of b) 0 (h.alone behaviors n) (alone_able behaviors n) (h.started [] (h.default_fields (fields_of b)) 0) start).holds (λ a t z. z.0.sound.fields) e
+      (initialised_fair [] (length (h.default_fields (fields_of b))) (fields_of b) 0 (h.alone behaviors n) (alone_able behaviors n) (h.started [] (h.default_fields (fields_of b)) 0) start).holds (λ a t z. z.0.sound.fields) e
 
   constructed_legal : (o : Option Handler) (args : List Value) (behaviors : List Behavior) (n : ℕ) (old fields : List Value) → EachOf (Lawful Asked) args → EachOf (Lawful Asked) old → h.constructed o args (h.alone behaviors n) old ≡ Ok fields → EachOf (Lawful Asked) fields
   constructed_legal None args behaviors n old fields l f e = let same : old ≡ fields = cc in subst (EachOf (Lawful Asked)) same f
   constructed_legal (Some c) args behaviors n old fields l f e =
       let r : Reads = h.alone behaviors n in
       let u : State = h.started (h.parameters behaviors c.params args) old 0 in
-      let start = start_sound (body_args c.body) 0 r (h.parameters behaviors c.params args) old refl (parameters_good 0 0 behaviors c.params args l) f in
-      fields_left _ (block c.body r u) fields (block_fair Asked 0 (body_args c.body) (length old) c.body (omega arith) r 0 (λ q. refl) (alone_able behaviors n) u start).holds (λ a t z. z.0.sound.fields) e
+      let start = start_sound (body_sizes c.body) 0 r (h.parameters behaviors c.params args) old refl (parameters_good 0 0 behaviors c.params args l) f in
+      fields_left _ (block c.body r u) fields (block_fair Asked 0 (body_sizes c.body) (length old) c.body (each_itself (body_sizes c.body)) r 0 (λ q. refl) (alone_able behaviors n) u start).holds (λ a t z. z.0.sound.fields) e
 
   built_legal : (o : Option Behavior) (args : List Value) (behaviors : List Behavior) (n : ℕ) (fields : List Value) → EachOf (Lawful Asked) args → h.built o args (h.alone behaviors n) ≡ Ok fields → EachOf (Lawful Asked) fields
   built_legal None args behaviors n fields l e = let same : [] ≡ fields = cc in subst (EachOf (Lawful Asked)) same tt
@@ -131,14 +138,11 @@ module _ (Asked : Type 0) where
 
   -- ---- handlers
 
-  most_at : {X : Type 0} (f : X → ℕ) (xs : List X) (i : ℕ) → IfAny (λ x. f x ≤ greatest (map f xs)) (slice_get xs i)
-  most_at f [] i = tt
-  most_at f (x ∷ xs) zero = omega arith
-  most_at f (x ∷ xs) (suc i) = any_more (slice_get xs i) (most_at f xs i)
-    where
-      any_more : (o : Option _) → IfAny (λ y. f y ≤ greatest (map f xs)) o → IfAny (λ y. f y ≤ max (f x) (greatest (map f xs))) o
-      any_more None l = tt
-      any_more (Some y) l = omega (arith, l)
+  -- what holds of all holds of each
+  sizes_at : {X : Type 0} (f : X → List ℕ) (sizes : List ℕ) (xs : List X) (i : ℕ) → In sizes (all_of (map f xs)) → IfAny (λ x. In sizes (f x)) (slice_get xs i)
+  sizes_at f sizes [] i l = tt
+  sizes_at f sizes (x ∷ xs) zero l = each_front (λ n. IsAmong n sizes) (f x) (all_of (map f xs)) l
+  sizes_at f sizes (x ∷ xs) (suc i) l = sizes_at f sizes xs i (each_back (λ n. IsAmong n sizes) (f x) (all_of (map f xs)) l)
 
   -- a call with an old reply, and what is legal where that is asked for
   record IsSoundFor (c : Call) : Type 0 where
@@ -152,8 +156,8 @@ module _ (Asked : Type 0) where
   IsLawfulPiece (Known v) = Lawful Asked v
   IsLawfulPiece (Token n) = Unit {0}
 
-  record IsFairFor (most : ℕ) (c : Call) (e : Effects) : Type 0 where
-    order : IsOrderly most c e
+  record IsFairFor (sizes : List ℕ) (c : Call) (e : Effects) : Type 0 where
+    order : IsOrderly sizes c e
     args : EachOf (λ m. EachOf IsLawfulPiece m.args) e.messages
     actors : EachOf (λ a. EachOf (Lawful Asked) a.fields) e.actors
     creations : EachOf (λ x. EachOf (Lawful Asked) x.fields) e.creations
@@ -167,11 +171,11 @@ module _ (Asked : Type 0) where
   lawful_piece from to (Known v) g = g
   lawful_piece from to (Token n) g = tt
 
-  ordered : (me : Name) (caller : Reply) (from to most : ℕ) (m : Message) → d.IsGoodMessage Asked me caller from to most m → IsGoodMessage me caller from to most m
-  ordered me caller from to most m g = record {
+  ordered : (me : Name) (caller : Reply) (from to : ℕ) (sizes : List ℕ) (m : Message) → d.IsGoodMessage Asked me caller from to sizes m → IsGoodMessage me caller from to sizes m
+  ordered me caller from to sizes m g = record {
     maker = g.maker;
     args = each_more (d.IsGoodPiece Asked from to) (WaitsWithin from to) m.args (waits from to) g.args;
-    few = g.few;
+    size = g.size;
     after = g.after;
     reply = g.reply;
   }
@@ -180,81 +184,74 @@ module _ (Asked : Type 0) where
     able : Able Asked c.serial (h.reads p c)
     able = record { me = sound.me; fresh = sound.names; reply = sound.reply; make = new_legal p.behaviors }
 
-    from_state : (most : ℕ) (f : Flow) (t : State) → d.Sound Asked c.serial most (length c.fields) (h.reads p c) (exit Asked c.serial most (length c.fields) 0 f) t → IsFairFor most c (h.effects_of f t c.fresh)
-    from_state most f t k = record {
+    from_state : (sizes : List ℕ) (f : Flow) (t : State) → d.Sound Asked c.serial sizes (length c.fields) (h.reads p c) (exit Asked c.serial sizes (length c.fields) 0 f) t → IsFairFor sizes c (h.effects_of f t c.fresh)
+    from_state sizes f t k = record {
       order = record {
         rises = k.low;
         once = k.once;
         low = k.below;
         high = k.above;
-        messages = each_more (d.IsGoodMessage Asked c.me c.reply c.serial t.serial most) (IsGoodMessage c.me c.reply c.serial t.serial most) t.messages (ordered c.me c.reply c.serial t.serial most) k.messages;
+        messages = each_more (d.IsGoodMessage Asked c.me c.reply c.serial t.serial sizes) (IsGoodMessage c.me c.reply c.serial t.serial sizes) t.messages (ordered c.me c.reply c.serial t.serial sizes) k.messages;
         joins = k.joins;
         owed_once = k.owed_once;
         passed = λ some. passed f (k.caller some);
         names = k.names;
         count = k.count;
       };
-      args = each_more (d.IsGoodMessage Asked c.me c.reply c.serial t.serial most) (λ m. EachOf IsLawfulPiece m.args) t.messages (λ m g. each_more (d.IsGoodPiece Asked c.serial t.serial) IsLawfulPiece m.args (lawful_piece c.serial t.serial) g.args) k.messages;
+      args = each_more (d.IsGoodMessage Asked c.me c.reply c.serial t.serial sizes) (λ m. EachOf IsLawfulPiece m.args) t.messages (λ m g. each_more (d.IsGoodPiece Asked c.serial t.serial) IsLawfulPiece m.args (lawful_piece c.serial t.serial) g.args) k.messages;
       actors = k.actors;
       creations = k.creations;
       fields = k.fields;
     }
       where
-        passed : (f : Flow) → owed (address c.reply) t.messages t.joins ≤ exit Asked c.serial most (length c.fields) 0 f → owed (address c.reply) t.messages t.joins ≤ passes (h.answer_of f)
+        passed : (f : Flow) → owed (address c.reply) t.messages t.joins ≤ exit Asked c.serial sizes (length c.fields) 0 f → owed (address c.reply) t.messages t.joins ≤ passes (h.answer_of f)
         passed Next l = l
         passed (Returned v) l = l
         passed Passed l = omega (arith, l)
 
-    unchanged_fair : (most : ℕ) → IsFairFor most c (h.unchanged c)
-    unchanged_fair most = from_state most Next (h.started [] c.fields c.serial) (start_sound most c.serial (h.reads p c) [] c.fields refl tt sound.fields)
+    unchanged_fair : (sizes : List ℕ) → IsFairFor sizes c (h.unchanged c)
+    unchanged_fair sizes = from_state sizes Next (h.started [] c.fields c.serial) (start_sound sizes c.serial (h.reads p c) [] c.fields refl tt sound.fields)
 
-    abbrev Leaves : ℕ → Checked Effects → Type 0
-    Leaves most (Ok e) = IsFairFor most c e
-    Leaves most (Err k) = Unit {0}
+    abbrev Leaves : List ℕ → Checked Effects → Type 0
+    Leaves sizes (Ok e) = IsFairFor sizes c e
+    Leaves sizes (Err k) = Unit {0}
 
-    ran_fair : (most : ℕ) (o : Option Handler) → IfAny (λ x. body_args x.body ≤ most) o → Leaves most (h.ran o p c)
-    ran_fair most None l = unchanged_fair most
-    ran_fair most (Some x) l = at (block x.body (h.reads p c) u) (block_fair Asked c.serial most (length c.fields) x.body l (h.reads p c) 0 (λ q. refl) able u start).holds
+    ran_fair : (sizes : List ℕ) (o : Option Handler) → IfAny (λ x. In sizes (body_sizes x.body)) o → Leaves sizes (h.ran o p c)
+    ran_fair sizes None l = unchanged_fair sizes
+    ran_fair sizes (Some x) l = at (block x.body (h.reads p c) u) (block_fair Asked c.serial sizes (length c.fields) x.body l (h.reads p c) 0 (λ q. refl) able u start).holds
       where
         u : State
         u = h.started (h.parameters p.behaviors x.params c.args) c.fields c.serial
 
-        start : d.Sound Asked c.serial most (length c.fields) (h.reads p c) 0 u
-        start = start_sound most c.serial (h.reads p c) (h.parameters p.behaviors x.params c.args) c.fields refl (parameters_good c.serial c.serial p.behaviors x.params c.args sound.args) sound.fields
+        start : d.Sound Asked c.serial sizes (length c.fields) (h.reads p c) 0 u
+        start = start_sound sizes c.serial (h.reads p c) (h.parameters p.behaviors x.params c.args) c.fields refl (parameters_good c.serial c.serial p.behaviors x.params c.args sound.args) sound.fields
 
-        at : (o : Checked (Flow × State)) → After (λ f t. d.Reach Asked c.serial most (length c.fields) (h.reads p c) (exit Asked c.serial most (length c.fields) 0 f) u t × FlowOk Asked c.serial most (length c.fields) (h.reads p c) f t) o → Leaves most (and_then o (λ z. Ok (h.effects_of z.0 z.1 c.fresh)))
-        at (Ok z) r = from_state most z.0 z.1 r.0.sound
+        at : (o : Checked (Flow × State)) → After (λ f t. d.Reach Asked c.serial sizes (length c.fields) (h.reads p c) (exit Asked c.serial sizes (length c.fields) 0 f) u t × FlowOk Asked c.serial sizes (length c.fields) (h.reads p c) f t) o → Leaves sizes (and_then o (λ z. Ok (h.effects_of z.0 z.1 c.fresh)))
+        at (Ok z) r = from_state sizes z.0 z.1 r.0.sound
         at (Err k) r = tt
 
-    handlers_low : (b : Behavior) (i most : ℕ) → greatest (map (λ x. body_args x.body) (handlers_of b)) ≤ most → IfAny (λ x. body_args x.body ≤ most) (slice_get (handlers_of b) i)
-    handlers_low b i most l = any_more (slice_get (handlers_of b) i) (most_at (λ x. body_args x.body) (handlers_of b) i)
-      where
-        any_more : (o : Option Handler) → IfAny (λ x. body_args x.body ≤ greatest (map (λ x. body_args x.body) (handlers_of b))) o → IfAny (λ x. body_args x.body ≤ most) o
-        any_more None z = tt
-        any_more (Some x) z = omega (arith, z, l)
+    ran_in_fair : (sizes : List ℕ) (o : Option Behavior) → IfAny (λ b. In sizes (all_of (map (λ x. body_sizes x.body) (handlers_of b)))) o → Leaves sizes (h.ran_in o p c)
+    ran_in_fair sizes None l = unchanged_fair sizes
+    ran_in_fair sizes (Some b) l = ran_fair sizes (slice_get (handlers_of b) c.handler) (sizes_at (λ x. body_sizes x.body) sizes (handlers_of b) c.handler l)
 
-    ran_in_fair : (most : ℕ) (o : Option Behavior) → IfAny (λ b. greatest (map (λ x. body_args x.body) (handlers_of b)) ≤ most) o → Leaves most (h.ran_in o p c)
-    ran_in_fair most None l = unchanged_fair most
-    ran_in_fair most (Some b) l = ran_fair most (slice_get (handlers_of b) c.handler) (handlers_low b c.handler most l)
+    moved_fair : (sizes : List ℕ) (o : Option Ual) → Leaves sizes (h.moved o c)
+    moved_fair sizes None = tt
+    moved_fair sizes (Some l) = unchanged_fair sizes
 
-    moved_fair : (most : ℕ) (o : Option Ual) → Leaves most (h.moved o c)
-    moved_fair most None = tt
-    moved_fair most (Some l) = unchanged_fair most
-
-    run_fair : Leaves (program_args p) (h.run p c)
-    unfolding program_args
+    run_fair : Leaves (program_sizes p) (h.run p c)
+    unfolding program_sizes
     run_fair = late (nat_lt 18446744073709547520 c.serial)
       where
-        here : (b : Bool) → Leaves (program_args p) (if b then h.migrated c else h.ran_in (slice_get p.behaviors c.behavior) p c)
-        here true = moved_fair (program_args p) (ual_of (h.first_text c.args))
-        here false = ran_in_fair (program_args p) (slice_get p.behaviors c.behavior) (most_at (λ b. greatest (map (λ x. body_args x.body) (handlers_of b))) p.behaviors c.behavior)
+        here : (b : Bool) → Leaves (program_sizes p) (if b then h.migrated c else h.ran_in (slice_get p.behaviors c.behavior) p c)
+        here true = moved_fair (program_sizes p) (ual_of (h.first_text c.args))
+        here false = ran_in_fair (program_sizes p) (slice_get p.behaviors c.behavior) (sizes_at (λ b. all_of (map (λ x. body_sizes x.body) (handlers_of b))) (program_sizes p) p.behaviors c.behavior (each_itself (program_sizes p)))
 
-        late : (b : Bool) → Leaves (program_args p) (if b then Err TooManyMessages else h.ran_from p c)
+        late : (b : Bool) → Leaves (program_sizes p) (if b then Err TooManyMessages else h.ran_from p c)
         late true = tt
         late false = here (nat_eq c.handler 65535)
 
-    done_fair : (o : Checked Effects) (e : Effects) → Leaves (program_args p) o → h.outcome_of o ≡ Done e → IsFairFor (program_args p) c e
-    done_fair (Ok y) e l is = let same : y ≡ e = cc in subst (IsFairFor (program_args p) c) same l
+    done_fair : (o : Checked Effects) (e : Effects) → Leaves (program_sizes p) o → h.outcome_of o ≡ Done e → IsFairFor (program_sizes p) c e
+    done_fair (Ok y) e l is = let same : y ≡ e = cc in subst (IsFairFor (program_sizes p) c) same l
     done_fair (Err k) e l is = absurd cc
 
 -- ---- the laws

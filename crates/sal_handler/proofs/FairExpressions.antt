@@ -38,20 +38,20 @@ use Rattle.sal_handler.proofs.Sound.{IsGoodLocal, Able, MakesLegal}
 read_uan : (text : List ℕ) (u : Uan) → uan_of text ≡ Some u → is_uan u ≡ true
 read_uan text u e = names_are_read.given text u (names_are_decided.uan text u e)
 
-module _ (Asked : Type 0) (from most width : ℕ) where
+module _ (Asked : Type 0) (from : ℕ) (sizes : List ℕ) (width : ℕ) where
   abbrev Sound : Reads → ℕ → State → Type 0
-  Sound = d.Sound Asked from most width
+  Sound = d.Sound Asked from sizes width
 
   abbrev Fair : {A : Type 0} → Reads → (A → ℕ) → (A → State → Type 0) → State → Checked (A × State) → Type 0
-  Fair = d.FairAt Asked from most width
+  Fair = d.FairAt Asked from sizes width
 
   -- of a part that passes nothing on
   abbrev Keeps : {A : Type 0} → Reads → ℕ → (A → State → Type 0) → State → Checked (A × State) → Type 0
   Keeps {A} r p V s x = Fair r (λ (a : A). p) V s x
 
   pub keeps_then : {A B : Type 0} (r : Reads) (p : ℕ) (V : A → State → Type 0) (q : B → ℕ) (W : B → State → Type 0) (s : State) (m : Eval A) (g : A → Eval B) →
-      Keeps r p V s (m s) → ((a : A) (t : State) → d.Moves Asked from most width r s t → Sound r p t → V a t → Fair r q W t (g a t)) → Fair r q W s ((m >>= g) s)
-  keeps_then {A} {B} r p V q W s m g f rest = d.fair_then Asked from most width r (λ (a : A). p) V q W s (m s) g f rest
+      Keeps r p V s (m s) → ((a : A) (t : State) → d.Moves Asked from sizes width r s t → Sound r p t → V a t → Fair r q W t (g a t)) → Fair r q W s ((m >>= g) s)
+  keeps_then {A} {B} r p V q W s m g f rest = d.fair_then Asked from sizes width r (λ (a : A). p) V q W s (m s) g f rest
 
   abbrev OfValue : Value → State → Type 0
   OfValue v s = Lawful Asked v
@@ -68,20 +68,20 @@ module _ (Asked : Type 0) (from most width : ℕ) where
   uan_legal u e = lawful_ref Asked (name.Uan u) (λ q. e)
 
   given : (r : Reads) (p : ℕ) (s : State) (v : Value) → Sound r p s → Lawful Asked v → Keeps r p OfValue s (Ok (v, s))
-  given r p s v h l = d.fair_pure Asked from most width r (λ (a : Value). p) OfValue s v h l
+  given r p s v h l = d.fair_pure Asked from sizes width r (λ (a : Value). p) OfValue s v h l
 
   lifted : (r : Reads) (p : ℕ) (s : State) (o : Checked Value) → Sound r p s → ((v : Value) → o ≡ Ok v → Lawful Asked v) → Keeps r p OfValue s (lift o s)
-  lifted r p s o h l = d.fair_lift Asked from most width r (λ (a : Value). p) OfValue s o (λ v e. (h, l v e))
+  lifted r p s o h l = d.fair_lift Asked from sizes width r (λ (a : Value). p) OfValue s o (λ v e. (h, l v e))
 
   pub all_fair : (es : List Mean) → EachOf MeanFair es → (r : Reads) (p : ℕ) → Able Asked from r → (done : List Value) → EachOf (Lawful Asked) done → (s : State) → Sound r p s → Keeps r p OfValues s (x.all es r done s)
-  all_fair [] f r p able done l s h = d.fair_pure Asked from most width r (λ (a : List Value). p) OfValues s done h l
+  all_fair [] f r p able done l s h = d.fair_pure Asked from sizes width r (λ (a : List Value). p) OfValues s done h l
   all_fair (e ∷ es) f r p able done l s h =
       keeps_then r p OfValue (λ (a : List Value). p) OfValues s (e r) (λ v. x.all es r (done ++ v ∷ [])) (f.0 r p able s h) (λ v t m k q.
       all_fair es f.1 r p able (done ++ v ∷ []) (each_append (Lawful Asked) done (v ∷ []) l (q, tt)) t k)
 
   operated_fair : (o : Part) → MeanFair o.1 → (v : Value) → Lawful Asked v → (r : Reads) (p : ℕ) → Able Asked from r → (s : State) → Sound r p s → Keeps r p OfValue s (x.operated o v r s)
   operated_fair o f v l r p able s h =
-      d.fair_if Asked from most width r (λ (a : Value). p) OfValue s (w.decides o.0 v) (pure (val.Bool (w.is_true v))) (o.1 r >>= (λ u. lift (w.operate o.0 v u)))
+      d.fair_if Asked from sizes width r (λ (a : Value). p) OfValue s (w.decides o.0 v) (pure (val.Bool (w.is_true v))) (o.1 r >>= (λ u. lift (w.operate o.0 v u)))
       (given r p s _ h (lawful_bool Asked (w.is_true v)))
       (keeps_then r p OfValue (λ (a : Value). p) OfValue s (o.1 r) (λ u. lift (w.operate o.0 v u)) (f r p able s h) (λ u t m k q. lifted r p t (w.operate o.0 v u) k (λ y e. operate_lawful Asked o.0 v u y q e)))
 
@@ -104,9 +104,9 @@ module _ (Asked : Type 0) (from most width : ℕ) where
   Whatever a s = Unit {0}
 
   perhaps_fair : (o : Option Mean) → IfAny MeanFair o → (r : Reads) (p : ℕ) → Able Asked from r → (s : State) → Sound r p s → Keeps r p (Whatever {A = Option Value}) s (x.perhaps o r s)
-  perhaps_fair None f r p able s h = d.fair_pure Asked from most width r (λ (a : Option Value). p) (Whatever {A = Option Value}) s None h tt
+  perhaps_fair None f r p able s h = d.fair_pure Asked from sizes width r (λ (a : Option Value). p) (Whatever {A = Option Value}) s None h tt
   perhaps_fair (Some e) f r p able s h =
-      keeps_then r p OfValue (λ (a : Option Value). p) (Whatever {A = Option Value}) s (e r) (λ v. pure (Some v)) (f r p able s h) (λ v t m k q. d.fair_pure Asked from most width r (λ (a : Option Value). p) (Whatever {A = Option Value}) t (Some v) k tt)
+      keeps_then r p OfValue (λ (a : Option Value). p) (Whatever {A = Option Value}) s (e r) (λ v. pure (Some v)) (f r p able s h) (λ v t m k q. d.fair_pure Asked from sizes width r (λ (a : Option Value). p) (Whatever {A = Option Value}) t (Some v) k tt)
 
   -- ---- names, numbers and new actors
 
@@ -115,37 +115,37 @@ module _ (Asked : Type 0) (from most width : ℕ) where
   is_good (Some y) u e = cc
 
   name_fair : (v : Value) (r : Reads) (p : ℕ) (s : State) → Sound r p s → Keeps r p (λ (u : Uan). λ t. uan_of (w.text_of v) ≡ Some u) s (x.name_from v s)
-  name_fair v r p s h = d.fair_lift Asked from most width r (λ (a : Uan). p) (λ (u : Uan). λ t. uan_of (w.text_of v) ≡ Some u) s (x.good_name (uan_of (w.text_of v))) (λ u e. (h, is_good (uan_of (w.text_of v)) u e))
+  name_fair v r p s h = d.fair_lift Asked from sizes width r (λ (a : Uan). p) (λ (u : Uan). λ t. uan_of (w.text_of v) ≡ Some u) s (x.good_name (uan_of (w.text_of v))) (λ u e. (h, is_good (uan_of (w.text_of v)) u e))
 
   locator_fair : (o : Option Value) (r : Reads) (p : ℕ) (s : State) → Sound r p s → Keeps r p (Whatever {A = Option Ual}) s (x.locator_from o s)
-  locator_fair None r p s h = d.fair_pure Asked from most width r (λ (a : Option Ual). p) (Whatever {A = Option Ual}) s None h tt
+  locator_fair None r p s h = d.fair_pure Asked from sizes width r (λ (a : Option Ual). p) (Whatever {A = Option Ual}) s None h tt
   locator_fair (Some v) r p s h =
-      keeps_then r p (Whatever {A = Ual}) (λ (a : Option Ual). p) (Whatever {A = Option Ual}) s (lift _) (λ l. pure (Some l)) (d.fair_lift Asked from most width r (λ (a : Ual). p) (Whatever {A = Ual}) s _ (λ l e. (h, tt))) (λ l t m k q. d.fair_pure Asked from most width r (λ (a : Option Ual). p) (Whatever {A = Option Ual}) t (Some l) k tt)
+      keeps_then r p (Whatever {A = Ual}) (λ (a : Option Ual). p) (Whatever {A = Option Ual}) s (lift _) (λ l. pure (Some l)) (d.fair_lift Asked from sizes width r (λ (a : Ual). p) (Whatever {A = Ual}) s _ (λ l e. (h, tt))) (λ l t m k q. d.fair_pure Asked from sizes width r (λ (a : Option Ual). p) (Whatever {A = Option Ual}) t (Some l) k tt)
 
   required_fair : (b : Bool) (k : Trap) (r : Reads) (p : ℕ) (s : State) → Sound r p s → Keeps r p (Whatever {A = Unit {0}}) s (require b k s)
-  required_fair true k r p s h = d.fair_pure Asked from most width r (λ (a : Unit {0}). p) (Whatever {A = Unit {0}}) s tt h tt
-  required_fair false k r p s h = d.fair_err Asked from most width r (λ (a : Unit {0}). p) (Whatever {A = Unit {0}}) s k
+  required_fair true k r p s h = d.fair_pure Asked from sizes width r (λ (a : Unit {0}). p) (Whatever {A = Unit {0}}) s tt h tt
+  required_fair false k r p s h = d.fair_err Asked from sizes width r (λ (a : Unit {0}). p) (Whatever {A = Unit {0}}) s k
 
   room_fair : (r : Reads) (p : ℕ) (s : State) → Sound r p s → Keeps r p (Whatever {A = Unit {0}}) s (x.room_for_actor s)
   room_fair r p s h = required_fair (nat_lt (length s.actors + length s.creations) 1024) TooManyMessages r p s h
 
   -- a number, which nothing has yet
   abbrev pub OfNumber : Reads → ℕ → State → Type 0
-  OfNumber r n s = d.Fresh Asked from most width r n s
+  OfNumber r n s = d.Fresh Asked from sizes width r n s
 
   pub number_fair : (r : Reads) (p : ℕ) (s : State) → Sound r p s → Keeps r p (OfNumber r) s (c.take_number s)
   number_fair r p s h = at (nat_lt s.serial 18446744073709551615)
     where
       at : (b : Bool) → Keeps r p (OfNumber r) s (if b then Ok (s.serial, record s { serial = s.serial + 1 }) else Err TooManyMessages)
-      at true = record { holds = (record { sound = d.sound_number Asked from most width r p s h; moves = d.moves_quiet Asked from most width r s (record s { serial = s.serial + 1 }) (omega arith) refl (λ a. refl) }, d.fresh_number Asked from most width r p s h) }
-      at false = d.fair_err Asked from most width r (λ (a : ℕ). p) (OfNumber r) s TooManyMessages
+      at true = record { holds = (record { sound = d.sound_number Asked from sizes width r p s h; moves = d.moves_quiet Asked from sizes width r s (record s { serial = s.serial + 1 }) (omega arith) refl (λ a. refl) }, d.fresh_number Asked from sizes width r p s h) }
+      at false = d.fair_err Asked from sizes width r (λ (a : ℕ). p) (OfNumber r) s TooManyMessages
 
   pub counted_fair : (n : ℕ) (r : Reads) (p : ℕ) (s : State) → Sound r p s → Keeps r p (OfNumber r) s (c.next_number n s)
   counted_fair n r p s h = at (nat_lt n 1024)
     where
       at : (b : Bool) → Keeps r p (OfNumber r) s (if b then c.take_number s else Err TooManyMessages)
       at true = number_fair r p s h
-      at false = d.fair_err Asked from most width r (λ (a : ℕ). p) (OfNumber r) s TooManyMessages
+      at false = d.fair_err Asked from sizes width r (λ (a : ℕ). p) (OfNumber r) s TooManyMessages
 
   fresh_spelled : (fresh : List Name) (i j : ℕ) → EachOf (λ n. name_is_spelled n ≡ true) fresh → name_is_spelled (c.name_or (slice_get fresh i) j) ≡ true
   unfolding name_is_spelled
@@ -154,12 +154,12 @@ module _ (Asked : Type 0) (from most width : ℕ) where
   fresh_spelled (n ∷ ns) (suc i) j e = fresh_spelled ns i j e.1
 
   made : (r : Reads) (p : ℕ) (make : Make) → MakesLegal Asked make → (b : ℕ) (args : List Value) → EachOf (Lawful Asked) args → (s : State) → Sound r p s → Keeps r p OfValues s (lift (make b args) s)
-  made r p make ok b args l s h = d.fair_lift Asked from most width r (λ (a : List Value). p) OfValues s (make b args) (λ fields e. (h, ok b args fields l e))
+  made r p make ok b args l s h = d.fair_lift Asked from sizes width r (λ (a : List Value). p) OfValues s (make b args) (λ fields e. (h, ok b args fields l e))
 
   actor_fair : (r : Reads) (p : ℕ) → Able Asked from r → (b : ℕ) (fields : List Value) → EachOf (Lawful Asked) fields → (s : State) → Sound r p s → Keeps r p OfValue s (x.add_actor b r fields s)
   actor_fair r p able b fields l s h =
       let a : Actor = record { name = c.fresh_name r.fresh (length s.actors); behavior = b; fields = fields } in
-      record { holds = (record { sound = d.sound_actor Asked from most width r p s a h refl l; moves = d.moves_quiet Asked from most width r s (d.with_actor Asked from most width a s) (omega arith) refl (λ a. refl) }, lawful_ref Asked (c.fresh_name r.fresh (length s.actors)) (λ q. fresh_spelled r.fresh (length s.actors) (length s.actors) (able.fresh q))) }
+      record { holds = (record { sound = d.sound_actor Asked from sizes width r p s a h refl l; moves = d.moves_quiet Asked from sizes width r s (d.with_actor Asked from sizes width a s) (omega arith) refl (λ a. refl) }, lawful_ref Asked (c.fresh_name r.fresh (length s.actors)) (λ q. fresh_spelled r.fresh (length s.actors) (length s.actors) (able.fresh q))) }
 
   create_fair : (make : Make) → MakesLegal Asked make → (b : ℕ) (args : List Value) → EachOf (Lawful Asked) args → (r : Reads) (p : ℕ) → Able Asked from r → (s : State) → Sound r p s → Keeps r p OfValue s (x.create make b args r s)
   create_fair make ok b args l r p able s h =
@@ -170,7 +170,7 @@ module _ (Asked : Type 0) (from most width : ℕ) where
   unfolding name_is_spelled
   creation_fair r p b u good place fields l n s h f =
       let y : Creation = record { serial = n; name = u; place = place; behavior = b; fields = fields } in
-      record { holds = (record { sound = d.sound_creation Asked from most width r p s y h f l; moves = d.moves_quiet Asked from most width r s (d.with_creation Asked from most width y s) (omega arith) refl (λ a. refl) }, lawful_ref Asked (name.Uan u) (λ q. good)) }
+      record { holds = (record { sound = d.sound_creation Asked from sizes width r p s y h f l; moves = d.moves_quiet Asked from sizes width r s (d.with_creation Asked from sizes width y s) (omega arith) refl (λ a. refl) }, lawful_ref Asked (name.Uan u) (λ q. good)) }
 
   create_at_fair : (make : Make) → MakesLegal Asked make → (b : ℕ) (args : List Value) → EachOf (Lawful Asked) args → (uan : Value) (ual : Option Value) (r : Reads) (p : ℕ) → (s : State) → Sound r p s → Keeps r p OfValue s (x.create_at make b args uan ual s)
   create_at_fair make ok b args l uan ual r p s h =

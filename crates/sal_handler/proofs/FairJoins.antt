@@ -28,12 +28,12 @@ use Rattle.sal_handler.proofs.Sound.{IsGoodInside, NotInnermost, Able}
 use Rattle.sal_handler.proofs.FairExpressions as x
 use Rattle.sal_handler.proofs.FairMessages as y
 
-module _ (Asked : Type 0) (from most width : ℕ) where
+module _ (Asked : Type 0) (from : ℕ) (sizes : List ℕ) (width : ℕ) where
   abbrev Sound : Reads → ℕ → State → Type 0
-  Sound = d.Sound Asked from most width
+  Sound = d.Sound Asked from sizes width
 
   abbrev Fair : {A : Type 0} → Reads → (A → ℕ) → (A → State → Type 0) → State → Checked (A × State) → Type 0
-  Fair = d.FairAt Asked from most width
+  Fair = d.FairAt Asked from sizes width
 
   -- ---- how a statement ends
 
@@ -62,20 +62,20 @@ module _ (Asked : Type 0) (from most width : ℕ) where
   abbrev OfLast : Option ℕ → State → Type 0
   OfLast o s = IfAny (IsWithin from s.serial) o
 
-  more_of : (p : ℕ) (last : End) → p ≤ y.exit_end Asked from most width p last
+  more_of : (p : ℕ) (last : End) → p ≤ y.exit_end Asked from sizes width p last
   more_of p end.Nobody = omega arith
   more_of p end.Token = omega arith
   more_of p end.Place = omega arith
   more_of p end.Caller = omega arith
 
-  pub chain_fair : (gs : List StageRun) → EachOf (y.StageFair Asked from most width) gs → (r : Reads) (p : ℕ) (before : Option ℕ) (last : End) → y.LastOk Asked from most width p last → Able Asked from r → (s : State) → Sound r p s → OfLast before s →
-      Fair r (λ (o : Option ℕ). y.exit_end Asked from most width p last) OfLast s (t.chain gs r before last s)
-  chain_fair [] f r p before last ok able s h g = d.fair_pure Asked from most width r (λ (o : Option ℕ). y.exit_end Asked from most width p last) OfLast s before (d.sound_more Asked from most width r p (y.exit_end Asked from most width p last) s (more_of p last) h) g
+  pub chain_fair : (gs : List StageRun) → EachOf (y.StageFair Asked from sizes width) gs → (r : Reads) (p : ℕ) (before : Option ℕ) (last : End) → y.LastOk Asked from sizes width p last → Able Asked from r → (s : State) → Sound r p s → OfLast before s →
+      Fair r (λ (o : Option ℕ). y.exit_end Asked from sizes width p last) OfLast s (t.chain gs r before last s)
+  chain_fair [] f r p before last ok able s h g = d.fair_pure Asked from sizes width r (λ (o : Option ℕ). y.exit_end Asked from sizes width p last) OfLast s before (d.sound_more Asked from sizes width r p (y.exit_end Asked from sizes width p last) s (more_of p last) h) g
   chain_fair (k ∷ []) f r p before last ok able s h g =
-      d.fair_then Asked from most width r (λ (n : ℕ). y.exit_end Asked from most width p last) (y.OfStageNumber Asked from most width) (λ (o : Option ℕ). y.exit_end Asked from most width p last) OfLast s (k r before last s) (λ n. t.chain [] r (Some n) last) (f.0 r p before last ok able s h g) (λ n u mv j z.
-      d.fair_pure Asked from most width r (λ (o : Option ℕ). y.exit_end Asked from most width p last) OfLast u (Some n) j z)
+      d.fair_then Asked from sizes width r (λ (n : ℕ). y.exit_end Asked from sizes width p last) (y.OfStageNumber Asked from sizes width) (λ (o : Option ℕ). y.exit_end Asked from sizes width p last) OfLast s (k r before last s) (λ n. t.chain [] r (Some n) last) (f.0 r p before last ok able s h g) (λ n u mv j z.
+      d.fair_pure Asked from sizes width r (λ (o : Option ℕ). y.exit_end Asked from sizes width p last) OfLast u (Some n) j z)
   chain_fair (k ∷ l ∷ more) f r p before last ok able s h g =
-      d.fair_then Asked from most width r (λ (n : ℕ). p) (y.OfStageNumber Asked from most width) (λ (o : Option ℕ). y.exit_end Asked from most width p last) OfLast s (k r before end.Token s) (λ n. t.chain (l ∷ more) r (Some n) last) (f.0 r p before end.Token tt able s h g) (λ n u mv j z.
+      d.fair_then Asked from sizes width r (λ (n : ℕ). p) (y.OfStageNumber Asked from sizes width) (λ (o : Option ℕ). y.exit_end Asked from sizes width p last) OfLast s (k r before end.Token s) (λ n. t.chain (l ∷ more) r (Some n) last) (f.0 r p before end.Token tt able s h g) (λ n u mv j z.
       chain_fair (l ∷ more) f.1 r p (Some n) last ok able u j z)
 
   -- ---- joins
@@ -90,9 +90,9 @@ module _ (Asked : Type 0) (from most width : ℕ) where
   join_owed : (j : Join) (s : State) (a : List ℕ) → d.owed_in a (with_join j s) ≡ d.owed_in a s + owes a j.reply
   join_owed j s a = omega (arith, total_append (λ j. owes a j.reply) s.joins (j ∷ []))
 
-  sound_open : (r : Reads) (p q : ℕ) (s : State) (j : Join) (before : Option ℕ) → Sound r p s → d.Fresh Asked from most width r j.number s → d.Owing Asked from most width r p q s j.reply → OfLast before s → Sound (t.within_join j.number before r) q (with_join j s)
+  sound_open : (r : Reads) (p q : ℕ) (s : State) (j : Join) (before : Option ℕ) → Sound r p s → d.Fresh Asked from sizes width r j.number s → d.Owing Asked from sizes width r p q s j.reply → OfLast before s → Sound (t.within_join j.number before r) q (with_join j s)
   sound_open r p q s j before h f o g =
-      let added = d.number_added Asked from most width r p s (with_join j s) j.number h f (join_taken j s) in
+      let added = d.number_added Asked from sizes width r p s (with_join j s) j.number h f (join_taken j s) in
       record {
         low = h.low;
         once = added.once;
@@ -106,7 +106,7 @@ module _ (Asked : Type 0) (from most width : ℕ) where
         within = ((f.within, g), h.within);
         locals = h.locals;
         messages = h.messages;
-        joins = each_append (λ j. d.OwedWell Asked from most width r s.serial j.reply) s.joins (j ∷ []) h.joins (o.well, tt);
+        joins = each_append (λ j. d.OwedWell Asked from sizes width r s.serial j.reply) s.joins (j ∷ []) h.joins (o.well, tt);
         names = h.names;
         actors = h.actors;
         creations = h.creations;
@@ -123,8 +123,8 @@ module _ (Asked : Type 0) (from most width : ℕ) where
     pub places : (k i : ℕ) → from ≤ k → k < s.serial → (k ≡ n → ⊥) → NotInnermost k r.within → d.owed_in (address (Place r.me k i)) u ≡ d.owed_in (address (Place r.me k i)) s
 
   -- a join that stood open is closed: what it is numbered and owes stays
-  module _ (r : Reads) (p q : ℕ) (s b : State) (open_one shut : Join) (before : Option ℕ) (h : Sound r p s) (f : d.Fresh Asked from most width r open_one.number s) (o : d.Owing Asked from most width r p q s open_one.reply)
-      (number : shut.number ≡ open_one.number) (reply : shut.reply ≡ open_one.reply) (k : Sound (t.within_join open_one.number before r) q b) (mv : d.Moves Asked from most width (t.within_join open_one.number before r) (with_join open_one s) b) where
+  module _ (r : Reads) (p q : ℕ) (s b : State) (open_one shut : Join) (before : Option ℕ) (h : Sound r p s) (f : d.Fresh Asked from sizes width r open_one.number s) (o : d.Owing Asked from sizes width r p q s open_one.reply)
+      (number : shut.number ≡ open_one.number) (reply : shut.reply ≡ open_one.reply) (k : Sound (t.within_join open_one.number before r) q b) (mv : d.Moves Asked from sizes width (t.within_join open_one.number before r) (with_join open_one s) b) where
     abbrev more : List Join
     more = mv.joins.0
 
@@ -149,19 +149,19 @@ module _ (Asked : Type 0) (from most width : ℕ) where
     same_owed : (a : List ℕ) → d.owed_in a left ≡ d.owed_in a b
     same_owed a = omega (arith, same_total (λ j. owes a j.reply) (ap (owes a) reply))
 
-    next_left : (is : List Inside) → r.within ≡ is → EachOf (IsGoodInside from s.serial) is → d.NextPlaces Asked from most width is r.me s → d.NextOwes Asked from most width is r.me s open_one.reply → NotInnermost open_one.number is → d.NextPlaces Asked from most width is r.me left
+    next_left : (is : List Inside) → r.within ≡ is → EachOf (IsGoodInside from s.serial) is → d.NextPlaces Asked from sizes width is r.me s → d.NextOwes Asked from sizes width is r.me s open_one.reply → NotInnermost open_one.number is → d.NextPlaces Asked from sizes width is r.me left
     next_left [] e w n z x = tt
     next_left (i ∷ is) e w n z x = λ k l.
         let a : List ℕ = address (Place r.me i.join k) in
         omega (arith, same_owed a, mv.places i.join k w.0.0.0 w.0.0.1 (λ same. x (sym same)), join_owed open_one s a, n k l, z k l)
 
-    each_left : EachOf (λ j. d.OwedWell Asked from most width r b.serial j.reply) left.joins
+    each_left : EachOf (λ j. d.OwedWell Asked from sizes width r b.serial j.reply) left.joins
     each_left =
-        let good : EachOf (λ j. d.OwedWell Asked from most width r b.serial j.reply) (s.joins ++ open_one ∷ more) = subst (EachOf (λ j. d.OwedWell Asked from most width r b.serial j.reply)) stood k.joins in
-        let behind = each_back (λ j. d.OwedWell Asked from most width r b.serial j.reply) s.joins (open_one ∷ more) good in
-        subst (EachOf (λ j. d.OwedWell Asked from most width r b.serial j.reply)) (sym stands)
-        (each_append (λ j. d.OwedWell Asked from most width r b.serial j.reply) s.joins (shut ∷ more) (each_front (λ j. d.OwedWell Asked from most width r b.serial j.reply) s.joins (open_one ∷ more) good)
-        (subst (d.OwedWell Asked from most width r b.serial) (sym reply) behind.0, behind.1))
+        let good : EachOf (λ j. d.OwedWell Asked from sizes width r b.serial j.reply) (s.joins ++ open_one ∷ more) = subst (EachOf (λ j. d.OwedWell Asked from sizes width r b.serial j.reply)) stood k.joins in
+        let behind = each_back (λ j. d.OwedWell Asked from sizes width r b.serial j.reply) s.joins (open_one ∷ more) good in
+        subst (EachOf (λ j. d.OwedWell Asked from sizes width r b.serial j.reply)) (sym stands)
+        (each_append (λ j. d.OwedWell Asked from sizes width r b.serial j.reply) s.joins (shut ∷ more) (each_front (λ j. d.OwedWell Asked from sizes width r b.serial j.reply) s.joins (open_one ∷ more) good)
+        (subst (d.OwedWell Asked from sizes width r b.serial) (sym reply) behind.0, behind.1))
 
     sound_left : Sound r q left
     sound_left = record {
@@ -194,10 +194,10 @@ module _ (Asked : Type 0) (from most width : ℕ) where
       places = λ n i a c other in_none. omega (arith, same_owed (address (Place r.me n i)), mv.places n i a c other, join_owed open_one s (address (Place r.me n i)), o.places n i a in_none);
     }
 
-  joined_fair : (void : Bool) (block : Run) → RunFair block → (r : Reads) (p q n : ℕ) (before : Option ℕ) (owes_to : Reply) → Able Asked from r → (s : State) → Sound r p s → d.Fresh Asked from most width r n s → d.Owing Asked from most width r p q s owes_to → OfLast before s →
+  joined_fair : (void : Bool) (block : Run) → RunFair block → (r : Reads) (p q n : ℕ) (before : Option ℕ) (owes_to : Reply) → Able Asked from r → (s : State) → Sound r p s → d.Fresh Asked from sizes width r n s → d.Owing Asked from sizes width r p q s owes_to → OfLast before s →
       After (λ k u. (k ≡ n) × Joined r q n s u) (t.joined void block r before n owes_to s)
   joined_fair void block fair r p q n before owes_to able s h f o g =
-      then_after (λ (e : Flow). λ b. d.Reach Asked from most width (t.within_join n before r) (exit q e) (with_join one s) b × FlowOk (t.within_join n before r) e b) (λ (k : ℕ). λ u. (k ≡ n) × Joined r q n s u)
+      then_after (λ (e : Flow). λ b. d.Reach Asked from sizes width (t.within_join n before r) (exit q e) (with_join one s) b × FlowOk (t.within_join n before r) e b) (λ (k : ℕ). λ u. (k ≡ n) × Joined r q n s u)
       (block (t.within_join n before r) (with_join one s)) (λ e b. Ok (n, t.closed (length s.joins) n void owes_to s.places b)) inner.holds (λ e b z. (refl, ends e b z.0 z.1))
     where
       one : Join
@@ -206,7 +206,7 @@ module _ (Asked : Type 0) (from most width : ℕ) where
       inner : Fair (t.within_join n before r) (exit q) (FlowOk (t.within_join n before r)) (with_join one s) (block (t.within_join n before r) (with_join one s))
       inner = fair (t.within_join n before r) q (λ e. absurd cc) (record { me = able.me; fresh = able.fresh; reply = able.reply; make = able.make }) (with_join one s) (sound_open r p q s one before h f o g)
 
-      ends : (e : Flow) (b : State) → d.Reach Asked from most width (t.within_join n before r) (exit q e) (with_join one s) b → FlowOk (t.within_join n before r) e b → Joined r q n s (t.closed (length s.joins) n void owes_to s.places b)
+      ends : (e : Flow) (b : State) → d.Reach Asked from sizes width (t.within_join n before r) (exit q e) (with_join one s) b → FlowOk (t.within_join n before r) e b → Joined r q n s (t.closed (length s.joins) n void owes_to s.places b)
       ends Next b z ok = joined_left r p q s b one (record { number = n; places = replicate b.places None; void = void; reply = owes_to }) before h f o refl refl z.sound z.moves
       ends (Returned v) b z ok = joined_left r p q s b one (record { number = n; places = replicate b.places None; void = void; reply = owes_to }) before h f o refl refl z.sound z.moves
       ends Passed b z ok = absurd cc
@@ -220,9 +220,9 @@ module _ (Asked : Type 0) (from most width : ℕ) where
       at true false = tt
       at false b = tt
 
-  whole : (r : Reads) (p q n : ℕ) (s u v w : State) → n ≡ s.serial → d.Moves Asked from most width r s u → d.Moves Asked from most width r u v → Joined r q n v w → d.Reach Asked from most width r q s w
+  whole : (r : Reads) (p q n : ℕ) (s u v w : State) → n ≡ s.serial → d.Moves Asked from sizes width r s u → d.Moves Asked from sizes width r u v → Joined r q n v w → d.Reach Asked from sizes width r q s w
   whole r p q n s u v w is a b j =
-      let c = d.moves_then Asked from most width r s u v a b in
+      let c = d.moves_then Asked from sizes width r s u v a b in
       record {
         sound = j.sound;
         moves = record {
@@ -232,15 +232,15 @@ module _ (Asked : Type 0) (from most width : ℕ) where
         };
       }
 
-  pub join_fair : (void : State → Bool) (block : Run) → RunFair block → y.StageFair Asked from most width (t.join void block)
+  pub join_fair : (void : State → Bool) (block : Run) → RunFair block → y.StageFair Asked from sizes width (t.join void block)
   join_fair void block fair r p before last ok able s h g = record {
     holds =
-        then_after (λ (n : ℕ). λ u. (d.Reach Asked from most width r p s u × d.Fresh Asked from most width r n u) × (n ≡ s.serial)) (λ (n : ℕ). λ w. d.Reach Asked from most width r (y.exit_end Asked from most width p last) s w × IsWithin from w.serial n) (t.count_join s)
+        then_after (λ (n : ℕ). λ u. (d.Reach Asked from sizes width r p s u × d.Fresh Asked from sizes width r n u) × (n ≡ s.serial)) (λ (n : ℕ). λ w. d.Reach Asked from sizes width r (y.exit_end Asked from sizes width p last) s w × IsWithin from w.serial n) (t.count_join s)
         (λ n. m.owed last r n >>= (λ owes. t.joined (void s) block r before n owes))
-        (after_both (λ (n : ℕ). λ u. d.Reach Asked from most width r p s u × d.Fresh Asked from most width r n u) (λ (n : ℕ). λ u. n ≡ s.serial) (t.count_join s) (x.counted_fair Asked from most width (length s.joins) r p s h).holds (count_is s)) (λ n u a.
-        then_after (λ (o : Reply). λ v. d.Reach Asked from most width r p u v × (d.Owing Asked from most width r p (y.exit_end Asked from most width p last) v o × d.Fresh Asked from most width r n v)) (λ (n : ℕ). λ w. d.Reach Asked from most width r (y.exit_end Asked from most width p last) s w × IsWithin from w.serial n) (m.owed last r n u)
-        (λ owes. t.joined (void s) block r before n owes) (y.owed_fair Asked from most width last r p n ok able u a.0.0.sound a.0.1).holds (λ o v b.
-        after_more (λ (k : ℕ). λ w. (k ≡ n) × Joined r (y.exit_end Asked from most width p last) n v w) (λ (k : ℕ). λ w. d.Reach Asked from most width r (y.exit_end Asked from most width p last) s w × IsWithin from w.serial k) (t.joined (void s) block r before n o v)
-        (λ k w z. (whole r p (y.exit_end Asked from most width p last) n s u v w a.1 a.0.0.moves b.0.moves z.1, subst (λ l. IsWithin from w.serial l) (sym z.0) z.1.number))
-        (joined_fair (void s) block fair r p (y.exit_end Asked from most width p last) n before o able v b.0.sound b.1.1 b.1.0 (d.if_more Asked from most width s.serial v.serial before (omega (arith, a.0.0.moves.serial, b.0.moves.serial)) g))));
+        (after_both (λ (n : ℕ). λ u. d.Reach Asked from sizes width r p s u × d.Fresh Asked from sizes width r n u) (λ (n : ℕ). λ u. n ≡ s.serial) (t.count_join s) (x.counted_fair Asked from sizes width (length s.joins) r p s h).holds (count_is s)) (λ n u a.
+        then_after (λ (o : Reply). λ v. d.Reach Asked from sizes width r p u v × (d.Owing Asked from sizes width r p (y.exit_end Asked from sizes width p last) v o × d.Fresh Asked from sizes width r n v)) (λ (n : ℕ). λ w. d.Reach Asked from sizes width r (y.exit_end Asked from sizes width p last) s w × IsWithin from w.serial n) (m.owed last r n u)
+        (λ owes. t.joined (void s) block r before n owes) (y.owed_fair Asked from sizes width last r p n ok able u a.0.0.sound a.0.1).holds (λ o v b.
+        after_more (λ (k : ℕ). λ w. (k ≡ n) × Joined r (y.exit_end Asked from sizes width p last) n v w) (λ (k : ℕ). λ w. d.Reach Asked from sizes width r (y.exit_end Asked from sizes width p last) s w × IsWithin from w.serial k) (t.joined (void s) block r before n o v)
+        (λ k w z. (whole r p (y.exit_end Asked from sizes width p last) n s u v w a.1 a.0.0.moves b.0.moves z.1, subst (λ l. IsWithin from w.serial l) (sym z.0) z.1.number))
+        (joined_fair (void s) block fair r p (y.exit_end Asked from sizes width p last) n before o able v b.0.sound b.1.1 b.1.0 (d.if_more Asked from sizes width s.serial v.serial before (omega (arith, a.0.0.moves.serial, b.0.moves.serial)) g))));
   }

@@ -21,7 +21,7 @@ use Rattle.sal_handler.specs.declared.state.State.{State}
 use Rattle.sal_handler.specs.Evaluation.{Checked, and_then, Eval}
 use Rattle.sal_handler.specs.Scopes.{Reads, fresh_name}
 use Rattle.sal_handler.specs.Expressions.{Make}
-use Rattle.sal_handler.specs.Fair.{EachOf, is_number, taken, IsWithin, IsNew, IsOwedWell, owes, owed, AreNamed, IsOld}
+use Rattle.sal_handler.specs.Fair.{EachOf, IsAmong, is_number, taken, IsWithin, IsNew, IsOwedWell, owes, owed, AreNamed, IsOld}
 use Rattle.sal_handler.proofs.Lawful.{Lawful}
 use Rattle.sal_handler.proofs.After.{After, then_after, after_more, lift_after}
 use Rattle.sal_handler.proofs.Induction.{IfAny}
@@ -38,10 +38,10 @@ abbrev pub IsGoodPiece : Type 0 → ℕ → ℕ → Piece → Type 0
 IsGoodPiece Asked from to (Known v) = Lawful Asked v
 IsGoodPiece Asked from to (Token n) = IsWithin from to n
 
-pub record IsGoodMessage (Asked : Type 0) (me : Name) (caller : Reply) (from to most : ℕ) (m : Message) : Type 0 where
+pub record IsGoodMessage (Asked : Type 0) (me : Name) (caller : Reply) (from to : ℕ) (sizes : List ℕ) (m : Message) : Type 0 where
   pub maker : m.maker ≡ me
   pub args : EachOf (IsGoodPiece Asked from to) m.args
-  pub few : length m.args ≤ most
+  pub size : IsAmong (length m.args) sizes
   pub after : EachOf (IsWithin from to) m.after
   pub reply : IsOwedWell me caller from to m.reply
 
@@ -70,7 +70,7 @@ pub record Able (Asked : Type 0) (from : ℕ) (r : Reads) : Type 0 where
   pub reply : IsOld r.me from r.reply
   pub make : IfAny (MakesLegal Asked) r.make
 
-module _ (Asked : Type 0) (from most width : ℕ) where
+module _ (Asked : Type 0) (from : ℕ) (sizes : List ℕ) (width : ℕ) where
   -- no place of the innermost join is owed from the next one on
   abbrev pub NextPlaces : List Inside → Name → State → Type 0
   NextPlaces [] me s = Unit {0}
@@ -92,7 +92,7 @@ module _ (Asked : Type 0) (from most width : ℕ) where
     pub caller : r.reply ≢ Nobody → owed_in (address r.reply) s ≤ passed
     pub within : EachOf (IsGoodInside from s.serial) r.within
     pub locals : EachOf (IsGoodLocal Asked from s.serial) s.locals
-    pub messages : EachOf (IsGoodMessage Asked r.me r.reply from s.serial most) s.messages
+    pub messages : EachOf (IsGoodMessage Asked r.me r.reply from s.serial sizes) s.messages
     pub joins : EachOf (λ j. OwedWell r s.serial j.reply) s.joins
     pub names : AreNamed r.fresh 0 s.actors
     pub actors : EachOf (λ a. EachOf (Lawful Asked) a.fields) s.actors
@@ -171,11 +171,11 @@ module _ (Asked : Type 0) (from most width : ℕ) where
   owed_more me caller a b le o (inr (inl e)) = inr (inl e)
   owed_more me caller a b le o (inr (inr w)) = inr (inr (new_more me a b le o w))
 
-  pub message_more : (me : Name) (caller : Reply) (a b : ℕ) → a ≤ b → (m : Message) → IsGoodMessage Asked me caller from a most m → IsGoodMessage Asked me caller from b most m
+  pub message_more : (me : Name) (caller : Reply) (a b : ℕ) → a ≤ b → (m : Message) → IsGoodMessage Asked me caller from a sizes m → IsGoodMessage Asked me caller from b sizes m
   message_more me caller a b le m g = record {
     maker = g.maker;
     args = each_more (IsGoodPiece Asked from a) (IsGoodPiece Asked from b) m.args (piece_more a b le) g.args;
-    few = g.few;
+    size = g.size;
     after = each_more (IsWithin from a) (IsWithin from b) m.after (λ n w. within_more a b n le w) g.after;
     reply = owed_more me caller a b le m.reply g.reply;
   }
@@ -207,7 +207,7 @@ module _ (Asked : Type 0) (from most width : ℕ) where
         caller = h.caller;
         within = each_more (IsGoodInside from s.serial) (IsGoodInside from (s.serial + 1)) r.within (inside_more s.serial (s.serial + 1) le) h.within;
         locals = each_more (IsGoodLocal Asked from s.serial) (IsGoodLocal Asked from (s.serial + 1)) s.locals (λ l w. held_more s.serial (s.serial + 1) le l.held w) h.locals;
-        messages = each_more (IsGoodMessage Asked r.me r.reply from s.serial most) (IsGoodMessage Asked r.me r.reply from (s.serial + 1) most) s.messages (message_more r.me r.reply s.serial (s.serial + 1) le) h.messages;
+        messages = each_more (IsGoodMessage Asked r.me r.reply from s.serial sizes) (IsGoodMessage Asked r.me r.reply from (s.serial + 1) sizes) s.messages (message_more r.me r.reply s.serial (s.serial + 1) le) h.messages;
         joins = each_more (λ j. OwedWell r s.serial j.reply) (λ j. OwedWell r (s.serial + 1) j.reply) s.joins (λ j w. owed_more r.me r.reply s.serial (s.serial + 1) le j.reply w) h.joins;
         names = h.names;
         actors = h.actors;
@@ -412,7 +412,7 @@ module _ (Asked : Type 0) (from most width : ℕ) where
   message_owed m s a = omega (arith, total_append (λ m. owes a m.reply) s.messages (m ∷ []))
 
   -- a message is sent
-  pub sound_message : (r : Reads) (p q : ℕ) (s : State) (m : Message) → Sound r p s → Fresh r m.serial s → Owing r p q s m.reply → IsGoodMessage Asked r.me r.reply from s.serial most m → Sound r q (with_message m s)
+  pub sound_message : (r : Reads) (p q : ℕ) (s : State) (m : Message) → Sound r p s → Fresh r m.serial s → Owing r p q s m.reply → IsGoodMessage Asked r.me r.reply from s.serial sizes m → Sound r q (with_message m s)
   sound_message r p q s m h f o g =
       let added = number_added r p s (with_message m s) m.serial h f (message_taken m s) in
       record {
@@ -427,7 +427,7 @@ module _ (Asked : Type 0) (from most width : ℕ) where
         caller = λ some. omega (arith, message_owed m s (address r.reply), o.caller some);
         within = h.within;
         locals = h.locals;
-        messages = each_append (IsGoodMessage Asked r.me r.reply from s.serial most) s.messages (m ∷ []) h.messages (g, tt);
+        messages = each_append (IsGoodMessage Asked r.me r.reply from s.serial sizes) s.messages (m ∷ []) h.messages (g, tt);
         joins = h.joins;
         names = h.names;
         actors = h.actors;

@@ -1,6 +1,6 @@
 -- What the effects of a handler keep, whatever the program: its actor's next numbers, each once; what its
 -- messages wait for; and to whom replies are owed.
-use Rattle.std.specs.Prelude.{◌≡◌, ◌≢◌, ℕ, ◌+◌, max, map, ◌≤◌, ◌<◌, ◌⊎◌, nat_eq, true, if◌then◌else◌, List, [], ◌∷◌, length, Some, None}
+use Rattle.std.specs.Prelude.{◌≡◌, ◌≢◌, ℕ, ◌+◌, map, ◌≤◌, ◌<◌, ◌⊎◌, nat_eq, true, if◌then◌else◌, List, [], ◌∷◌, ◌++◌, length, Some, None}
 use Rattle.std.specs.Str.{bytes_eq}
 use Rattle.sal_value.specs.declared.name.Name.{Name}
 use Rattle.sal_value.specs.declared.value.Value.{Value}
@@ -11,7 +11,6 @@ use Rattle.sal_ast.specs.declared.statement.Stmt.{Stmt}
 use Rattle.sal_ast.specs.declared.statement.Chain.{Chain}
 use Rattle.sal_ast.specs.declared.statement.Stage.TheOpen.{Stage-F, Stmt-F, Chain-F}
 use Rattle.sal_ast.specs.declared.statement.Stage.TheFolds.{fold-Stage, fold-Stmt, fold-Chain}
-use Rattle.sal_ast.specs.Depth.{greatest}
 use Rattle.sal_ast.specs.Members.{handlers_of}
 use Rattle.sal_mail.specs.declared.message.Piece.{Piece}
 use Rattle.sal_mail.specs.declared.message.Piece.TheVariants.{Known, Token}
@@ -52,6 +51,55 @@ taken k messages joins creations = total (λ m. is_number k m.serial) messages +
 abbrev pub IsWithin : ℕ → ℕ → ℕ → Type 0
 IsWithin from to n = (from ≤ n) × (n < to)
 
+-- ---- arguments
+
+-- it is one of these numbers
+abbrev pub IsAmong : ℕ → List ℕ → Type 0
+IsAmong n [] = ⊥
+IsAmong n (x ∷ xs) = (n ≡ x) ⊎ IsAmong n xs
+
+-- the numbers of all lists
+abbrev pub all_of : List (List ℕ) → List ℕ
+all_of [] = []
+all_of (x ∷ xs) = x ++ all_of xs
+
+-- how many arguments the message stages of a stage have, of a statement, of a chain
+abbrev pub sizes_of_stage : Stage-F (List ℕ) (List ℕ) (List ℕ) → List ℕ
+sizes_of_stage (Stage-F.Message m) = length m.args ∷ []
+sizes_of_stage (Stage-F.Join at body) = all_of body
+
+abbrev pub sizes_of_stmt : Stmt-F (List ℕ) (List ℕ) (List ℕ) → List ℕ
+sizes_of_stmt (Stmt-F.Empty at) = []
+sizes_of_stmt (Stmt-F.Block at list) = all_of list
+sizes_of_stmt (Stmt-F.Declare d) = []
+sizes_of_stmt (Stmt-F.Assign a) = []
+sizes_of_stmt (Stmt-F.If at test first None) = first
+sizes_of_stmt (Stmt-F.If at test first (Some second)) = first ++ second
+sizes_of_stmt (Stmt-F.While at test body) = body
+sizes_of_stmt (Stmt-F.For at first test next body) = body
+sizes_of_stmt (Stmt-F.Return at value) = []
+sizes_of_stmt (Stmt-F.Token at name chain) = chain
+sizes_of_stmt (Stmt-F.Chain chain passed) = chain
+
+abbrev pub sizes_of_chain : Chain-F (List ℕ) (List ℕ) (List ℕ) → List ℕ
+sizes_of_chain c = all_of c.stages
+
+unfoldable pub stage_sizes : Stage → List ℕ
+stage_sizes = fold-Stage (List ℕ) (List ℕ) (List ℕ) sizes_of_stage sizes_of_stmt sizes_of_chain
+
+unfoldable pub stmt_sizes : Stmt → List ℕ
+stmt_sizes = fold-Stmt (List ℕ) (List ℕ) (List ℕ) sizes_of_stage sizes_of_stmt sizes_of_chain
+
+unfoldable pub chain_sizes : Chain → List ℕ
+chain_sizes = fold-Chain (List ℕ) (List ℕ) (List ℕ) sizes_of_stage sizes_of_stmt sizes_of_chain
+
+abbrev pub body_sizes : List Stmt → List ℕ
+body_sizes body = all_of (map stmt_sizes body)
+
+-- how many arguments the message stages of the program's handlers have
+unfoldable pub program_sizes : Program → List ℕ
+program_sizes p = all_of (map (λ b. all_of (map (λ h. body_sizes h.body) (handlers_of b))) p.behaviors)
+
 -- ---- messages
 
 abbrev pub Legal : Value → Type 0
@@ -77,10 +125,11 @@ IsNew me from to (Outside n) = ⊥
 abbrev pub IsOwedWell : Name → Reply → ℕ → ℕ → Reply → Type 0
 IsOwedWell me caller from to r = (r ≡ Nobody) ⊎ ((r ≡ caller) ⊎ IsNew me from to r)
 
-pub record IsGoodMessage (me : Name) (caller : Reply) (from to most : ℕ) (m : Message) : Type 0 where
+-- a message of the actor, with as many arguments as a message stage has
+pub record IsGoodMessage (me : Name) (caller : Reply) (from to : ℕ) (sizes : List ℕ) (m : Message) : Type 0 where
   pub maker : m.maker ≡ me
   pub args : EachOf (WaitsWithin from to) m.args
-  pub few : length m.args ≤ most
+  pub size : IsAmong (length m.args) sizes
   pub after : EachOf (IsWithin from to) m.after
   pub reply : IsOwedWell me caller from to m.reply
 
@@ -105,45 +154,6 @@ abbrev pub AreNamed : List Name → ℕ → List Actor → Type 0
 AreNamed fresh i [] = Unit {0}
 AreNamed fresh i (a ∷ actors) = (a.name ≡ fresh_name fresh i) × AreNamed fresh (i + 1) actors
 
--- ---- arguments
-
--- the most arguments of a message in a stage, a statement, a chain
-abbrev pub args_of_stage : Stage-F ℕ ℕ ℕ → ℕ
-args_of_stage (Stage-F.Message m) = length m.args
-args_of_stage (Stage-F.Join at body) = greatest body
-
-abbrev pub args_of_stmt : Stmt-F ℕ ℕ ℕ → ℕ
-args_of_stmt (Stmt-F.Empty at) = 0
-args_of_stmt (Stmt-F.Block at list) = greatest list
-args_of_stmt (Stmt-F.Declare d) = 0
-args_of_stmt (Stmt-F.Assign a) = 0
-args_of_stmt (Stmt-F.If at test first None) = first
-args_of_stmt (Stmt-F.If at test first (Some second)) = max first second
-args_of_stmt (Stmt-F.While at test body) = body
-args_of_stmt (Stmt-F.For at first test next body) = body
-args_of_stmt (Stmt-F.Return at value) = 0
-args_of_stmt (Stmt-F.Token at name chain) = chain
-args_of_stmt (Stmt-F.Chain chain passed) = chain
-
-abbrev pub args_of_chain : Chain-F ℕ ℕ ℕ → ℕ
-args_of_chain c = greatest c.stages
-
-unfoldable pub stage_args : Stage → ℕ
-stage_args = fold-Stage ℕ ℕ ℕ args_of_stage args_of_stmt args_of_chain
-
-unfoldable pub stmt_args : Stmt → ℕ
-stmt_args = fold-Stmt ℕ ℕ ℕ args_of_stage args_of_stmt args_of_chain
-
-unfoldable pub chain_args : Chain → ℕ
-chain_args = fold-Chain ℕ ℕ ℕ args_of_stage args_of_stmt args_of_chain
-
-abbrev pub body_args : List Stmt → ℕ
-body_args body = greatest (map stmt_args body)
-
--- the most arguments of a message in the program's handlers
-unfoldable pub program_args : Program → ℕ
-program_args p = greatest (map (λ b. greatest (map (λ h. body_args h.body) (handlers_of b))) p.behaviors)
-
 -- ---- the law
 
 -- the reply is no token and no place of this actor with a number from this one on
@@ -162,14 +172,14 @@ pub record IsSoundCall (c : Call) : Type 0 where
   pub names : EachOf (λ n. name_is_spelled n ≡ true) c.names
 
 -- numbers, what is waited for, and to whom replies are owed
-pub record IsOrderly (most : ℕ) (c : Call) (e : Effects) : Type 0 where
+pub record IsOrderly (sizes : List ℕ) (c : Call) (e : Effects) : Type 0 where
   -- numbers are taken from the actor's next number on, each once, below its new next number
   pub rises : c.serial ≤ e.serial
   pub once : (k : ℕ) → taken k e.messages e.joins e.creations ≤ 1
   pub low : (k : ℕ) → k < c.serial → taken k e.messages e.joins e.creations ≡ 0
   pub high : (k : ℕ) → e.serial ≤ k → taken k e.messages e.joins e.creations ≡ 0
-  -- messages are the actor's own and wait only for such numbers
-  pub messages : EachOf (IsGoodMessage c.me c.reply c.serial e.serial most) e.messages
+  -- messages are the actor's own, with as many arguments as a stage of the program, and wait only for such numbers
+  pub messages : EachOf (IsGoodMessage c.me c.reply c.serial e.serial sizes) e.messages
   pub joins : EachOf (λ j. IsOwedWell c.me c.reply c.serial e.serial j.reply) e.joins
   -- each address is owed at most once, and the handled message's only where the reply was passed on
   pub owed_once : (r : Reply) → r ≢ Nobody → owed (address r) e.messages e.joins ≤ 1
@@ -178,8 +188,8 @@ pub record IsOrderly (most : ℕ) (c : Call) (e : Effects) : Type 0 where
   pub names : AreNamed c.names 0 e.actors
   pub count : length e.fields ≡ length c.fields
 
-pub record IsFair (most : ℕ) (c : Call) (e : Effects) : Type 0 where
-  pub order : IsOrderly most c e
+pub record IsFair (sizes : List ℕ) (c : Call) (e : Effects) : Type 0 where
+  pub order : IsOrderly sizes c e
   -- known values and fields are legal
   pub args : EachOf (λ m. EachOf IsLegalPiece m.args) e.messages
   pub actors : EachOf (λ a. EachOf Legal a.fields) e.actors
@@ -188,8 +198,8 @@ pub record IsFair (most : ℕ) (c : Call) (e : Effects) : Type 0 where
 
 -- The effects of every handler of every program are orderly, where the reply is old,
 abbrev pub HandlersAreOrderly : Type 0
-HandlersAreOrderly = (p : Program) (c : Call) (e : Effects) → IsOld c.me c.serial c.reply → handle p c ≡ Done e → IsOrderly (program_args p) c e
+HandlersAreOrderly = (p : Program) (c : Call) (e : Effects) → IsOld c.me c.serial c.reply → handle p c ≡ Done e → IsOrderly (program_sizes p) c e
 
 -- and fair, where the call is sound.
 abbrev pub HandlersAreFair : Type 0
-HandlersAreFair = (p : Program) (c : Call) (e : Effects) → IsSoundCall c → handle p c ≡ Done e → IsFair (program_args p) c e
+HandlersAreFair = (p : Program) (c : Call) (e : Effects) → IsSoundCall c → handle p c ≡ Done e → IsFair (program_sizes p) c e

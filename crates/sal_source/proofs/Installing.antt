@@ -40,8 +40,8 @@ old_reply actors posted a at actor r h = by r h
     by (Place owner join i) h = λ same. omega (arith, h, next owner same)
     by (Outside n) h = tt
 
-module _ (c : Configuration) (kept : KeptIn c) (m : Message) (a : Actor × ℕ) (fresh : List Name) (e : Effects) (most : ℕ) (at : fm.get c.actors (name_key a.0.name) ≡ Some a) (actor : IsActor a.0.name) (owed : IsOwedOld c.actors c.posted m.reply)
-    (order : IsOrderly most (call_of m a fresh) e) (fits : fits_fresh fresh e c ≡ true) where
+module _ (c : Configuration) (kept : KeptIn c) (m : Message) (a : Actor × ℕ) (fresh : List Name) (e : Effects) (sizes : List ℕ) (at : fm.get c.actors (name_key a.0.name) ≡ Some a) (actor : IsActor a.0.name) (owed : IsOwedOld c.actors c.posted m.reply)
+    (order : IsOrderly sizes (call_of m a fresh) e) (fits : fits_fresh fresh e c ≡ true) where
   abbrev me : Name
   me = a.0.name
 
@@ -125,19 +125,19 @@ module _ (c : Configuration) (kept : KeptIn c) (m : Message) (a : Actor × ℕ) 
   }
 
   messages_within : EachOf (λ x. IsWithin a.1 e.serial x.serial) e.messages
-  messages_within = each_more (λ x. 1 ≤ f.total (λ y. is_number x.serial y.serial) e.messages) (λ x. IsWithin a.1 e.serial x.serial) e.messages (λ x l. within most (call_of m a fresh) e order x.serial (omega (arith, l))) (one_at_least (λ x. x.serial) [] e.messages)
+  messages_within = each_more (λ x. 1 ≤ f.total (λ y. is_number x.serial y.serial) e.messages) (λ x. IsWithin a.1 e.serial x.serial) e.messages (λ x l. within sizes (call_of m a fresh) e order x.serial (omega (arith, l))) (one_at_least (λ x. x.serial) [] e.messages)
 
   joins_within : EachOf (λ j. IsWithin a.1 e.serial j.number) e.joins
-  joins_within = each_more (λ j. 1 ≤ f.total (λ y. is_number j.number y.number) e.joins) (λ j. IsWithin a.1 e.serial j.number) e.joins (λ j l. within most (call_of m a fresh) e order j.number (omega (arith, l))) (one_at_least (λ j. j.number) [] e.joins)
+  joins_within = each_more (λ j. 1 ≤ f.total (λ y. is_number j.number y.number) e.joins) (λ j. IsWithin a.1 e.serial j.number) e.joins (λ j l. within sizes (call_of m a fresh) e order j.number (omega (arith, l))) (one_at_least (λ j. j.number) [] e.joins)
 
   abbrev GoodOne : Message → Type 0
-  GoodOne x = IsGoodMessage me m.reply a.1 e.serial most x × IsWithin a.1 e.serial x.serial
+  GoodOne x = IsGoodMessage me m.reply a.1 e.serial sizes x × IsWithin a.1 e.serial x.serial
 
   abbrev GoodJoin : Join → Type 0
   GoodJoin j = IsOwedWell me m.reply a.1 e.serial j.reply × IsWithin a.1 e.serial j.number
 
   good_messages : EachOf GoodOne e.messages
-  good_messages = each_both (IsGoodMessage me m.reply a.1 e.serial most) (λ x. IsWithin a.1 e.serial x.serial) e.messages order.messages messages_within
+  good_messages = each_both (IsGoodMessage me m.reply a.1 e.serial sizes) (λ x. IsWithin a.1 e.serial x.serial) e.messages order.messages messages_within
 
   good_joins : EachOf GoodJoin e.joins
   good_joins = each_both (λ j. IsOwedWell me m.reply a.1 e.serial j.reply) (λ j. IsWithin a.1 e.serial j.number) e.joins order.joins joins_within

@@ -244,8 +244,8 @@ pub each_both : {X : Type 0} (P Q : X → Type 0) (xs : List X) → EachOf P xs 
 each_both P Q [] p q = tt
 each_both P Q (x ∷ xs) p q = ((p.0, q.0), each_both P Q xs p.1 q.1)
 
-pub within : (most : ℕ) (c : Call) (e : Effects) → IsOrderly most c e → (k : ℕ) → 1 ≤ taken k e.messages e.joins e.creations → IsWithin c.serial e.serial k
-within most c e o k l = (low (nat_le c.serial k) refl, high (nat_le e.serial k) refl)
+pub within : (sizes : List ℕ) (c : Call) (e : Effects) → IsOrderly sizes c e → (k : ℕ) → 1 ≤ taken k e.messages e.joins e.creations → IsWithin c.serial e.serial k
+within sizes c e o k l = (low (nat_le c.serial k) refl, high (nat_le e.serial k) refl)
   where
     low : (b : Bool) → nat_le c.serial k ≡ b → c.serial ≤ k
     low true is = leb-true c.serial k is

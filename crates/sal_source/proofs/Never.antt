@@ -13,7 +13,7 @@ use Rattle.sal_handler.specs.declared.turn.Began.{Began}
 use Rattle.sal_handler.specs.declared.turn.Began.TheVariants as began
 use Rattle.sal_handler.specs.Calls.{Call, Meaning}
 use Rattle.sal_handler.specs.Fits.{meaning_of}
-use Rattle.sal_handler.specs.Fair.{IsOld, IsOrderly, program_args}
+use Rattle.sal_handler.specs.Fair.{IsOld, IsOrderly, program_sizes}
 use Rattle.sal_handler.proofs.FairCalls.{handlers_orderly}
 use Rattle.sal_source.specs.declared.state.Setup.{Setup}
 use Rattle.sal_source.specs.declared.state.Step.{Step}
@@ -85,7 +85,7 @@ takes_most maker serial (Bind m n) = omega arith
 takes_most maker serial (Refuse m n) = omega arith
 takes_most maker serial (Post number to behavior handler args) = omega arith
 
-module _ (p : Meaning) (setup : Setup) (most : ℕ) (orderly : (call : Call) (e : Effects) → IsOld call.me call.serial call.reply → p.outcome call ≡ Done e → IsOrderly most call e) where
+module _ (p : Meaning) (setup : Setup) (sizes : List ℕ) (orderly : (call : Call) (e : Effects) → IsOld call.me call.serial call.reply → p.outcome call ≡ Done e → IsOrderly sizes call e) where
   record Led (s : Step) (ss : List Step) (c end : Configuration) : Type 0 where
     next : Configuration
     is : step p setup c s ≡ Some next
@@ -127,7 +127,7 @@ module _ (p : Meaning) (setup : Setup) (most : ℕ) (orderly : (call : Call) (e 
   counted [] c end k e maker serial = record { once = omega arith; old = λ l. omega arith }
   counted (s ∷ ss) c end k e maker serial =
       let l = led s ss c end e in
-      let one = one_step c k p most orderly setup s l.next l.is in
+      let one = one_step c k p sizes orderly setup s l.next l.is in
       let rest = counted ss l.next end one.keeps.kept l.rest maker serial in
       elim (one.takes maker serial) [
         | inl none ↦ record { once = omega (arith, none, rest.once); old = λ low. omega (arith, none, rest.old (omega (arith, low, one.keeps.goes.grows maker)), pend_falls c l.next one.keeps maker serial low) }
@@ -143,7 +143,7 @@ module _ (p : Meaning) (setup : Setup) (most : ℕ) (orderly : (call : Call) (e 
   along : (ss : List Step) (c end : Configuration) → KeptIn c → steps p setup c ss ≡ Some end → KeptIn end
   unfolding steps
   along [] c end k e = let same : c ≡ end = cc in subst KeptIn same k
-  along (s ∷ ss) c end k e = let l = led s ss c end e in along ss l.next end (one_step c k p most orderly setup s l.next l.is).keeps.kept l.rest
+  along (s ∷ ss) c end k e = let l = led s ss c end e in along ss l.next end (one_step c k p sizes orderly setup s l.next l.is).keeps.kept l.rest
 
   closed_once : (c d : Configuration) → Keeps c d → (owner : Name) (number : ℕ) → number < next c owner → is_open owner number c ≡ false → is_open owner number d ≡ false
   closed_once c d k owner number l closed = by (is_open owner number d) refl
@@ -160,7 +160,7 @@ module _ (p : Meaning) (setup : Setup) (most : ℕ) (orderly : (call : Call) (e 
   closed [] c end k e owner number l shut = let same : c ≡ end = cc in subst (λ z. is_open owner number z ≡ false) same shut
   closed (s ∷ ss) c end k e owner number l shut =
       let z = led s ss c end e in
-      let one = one_step c k p most orderly setup s z.next z.is in
+      let one = one_step c k p sizes orderly setup s z.next z.is in
       closed ss z.next end one.keeps.kept z.rest owner number (omega (arith, l, one.keeps.goes.grows owner)) (closed_once c z.next one.keeps owner number l shut)
 
   -- a run goes on from where its front ends
@@ -176,17 +176,17 @@ module _ (p : Meaning) (setup : Setup) (most : ℕ) (orderly : (call : Call) (e 
 -- ---- the laws
 
 pub taken_once : MessagesAreTakenOnce
-taken_once q setup ss end e maker serial = (counted (meaning_of q) setup (program_args q) (handlers_orderly q) ss (first (meaning_of q) setup) end (kept_first setup.words (meaning_of q).begun) e maker serial).once
+taken_once q setup ss end e maker serial = (counted (meaning_of q) setup (program_sizes q) (handlers_orderly q) ss (first (meaning_of q) setup) end (kept_first setup.words (meaning_of q).begun) e maker serial).once
 
 pub resolve_once : JoinsResolveOnce
 resolve_once q setup ss more c d e f owner number l shut =
     let p = meaning_of q in
     let start = kept_first setup.words p.begun in
-    let here = along p setup (program_args q) (handlers_orderly q) ss (first p setup) c start e in
-    closed p setup (program_args q) (handlers_orderly q) more c d here (parted p setup (program_args q) (handlers_orderly q) ss more (first p setup) c d e f) owner number l shut
+    let here = along p setup (program_sizes q) (handlers_orderly q) ss (first p setup) c start e in
+    closed p setup (program_sizes q) (handlers_orderly q) more c d here (parted p setup (program_sizes q) (handlers_orderly q) ss more (first p setup) c d e f) owner number l shut
 
 pub answer_once : StepsAnswerOnce
 answer_once q setup ss one c d e is =
     let p = meaning_of q in
-    let here = along p setup (program_args q) (handlers_orderly q) ss (first p setup) c (kept_first setup.words p.begun) e in
-    (one_step c here p (program_args q) (handlers_orderly q) setup one d is).keeps.few
+    let here = along p setup (program_sizes q) (handlers_orderly q) ss (first p setup) c (kept_first setup.words p.begun) e in
+    (one_step c here p (program_sizes q) (handlers_orderly q) setup one d is).keeps.few

@@ -113,7 +113,7 @@ module _ (c : Configuration) (kept : KeptIn c) where
     printed (target.Actor n) d e = absurd cc
     printed target.Output d e = gave ((m.reply, v.Null) ∷ []) (s.add_output (s.printed m) left) d (record { named = kept_left.named; keyed = kept_left.keyed; waits = kept_left.waits }) (record { grows = same_left.grows; waits = same_left.waits }) refl (one_given left kept_left (m.reply, v.Null)) e
 
-    module _ (p : Meaning) (most : ℕ) (orderly : (call : Call) (e : Effects) → IsOld call.me call.serial call.reply → p.outcome call ≡ Done e → IsOrderly most call e) (fresh : List Name) where
+    module _ (p : Meaning) (sizes : List ℕ) (orderly : (call : Call) (e : Effects) → IsOld call.me call.serial call.reply → p.outcome call ≡ Done e → IsOrderly sizes call e) (fresh : List Name) where
       came : (a : Actor × ℕ) → fm.get c.actors (name_key a.0.name) ≡ Some a → IsActor a.0.name → (o : Outcome) → p.outcome (s.call_of m a fresh) ≡ o → (d : Configuration) → s.after_outcome o maker serial fresh m a.0 left ≡ Some d → Took maker serial c d
       came a at actor (Trap kind) is d e = faulted fresh (Trapped kind) d e
       came a at actor (Done y) is d e = by (s.fits_fresh fresh y left) refl e
@@ -122,7 +122,7 @@ module _ (c : Configuration) (kept : KeptIn c) where
           by false fits e = absurd cc
           by true fits e =
               let order = orderly (s.call_of m a fresh) y (old_reply c.actors c.posted a at actor m.reply fit.owed) is in
-              gave (s.step_gives y m.reply) (s.installed y a.0 left) d (kept_installed left kept_left m a fresh y most at actor fit.owed order fits) (goes_installed left kept_left m a fresh y most at actor fit.owed order fits) refl (few_given left kept_left m a fresh y most at actor fit.owed order fits) e
+              gave (s.step_gives y m.reply) (s.installed y a.0 left) d (kept_installed left kept_left m a fresh y sizes at actor fit.owed order fits) (goes_installed left kept_left m a fresh y sizes at actor fit.owed order fits) refl (few_given left kept_left m a fresh y sizes at actor fit.owed order fits) e
 
       met : (n : Name) (o : Option (Actor × ℕ)) → fm.get c.actors (name_key n) ≡ o → (d : Configuration) → s.handled_by p.outcome maker serial fresh m o left ≡ Some d → Took maker serial c d
       met n None is d e = absurd cc
@@ -159,11 +159,11 @@ module _ (c : Configuration) (kept : KeptIn c) where
       let r = ready (s.pending maker serial c) (λ m. s.print_message maker serial m c) d e in
       printed maker serial r.message r.is r.message.target d r.leads
 
-  handled_took : (p : Meaning) (most : ℕ) → ((call : Call) (e : Effects) → IsOld call.me call.serial call.reply → p.outcome call ≡ Done e → IsOrderly most call e) →
+  handled_took : (p : Meaning) (sizes : List ℕ) → ((call : Call) (e : Effects) → IsOld call.me call.serial call.reply → p.outcome call ≡ Done e → IsOrderly sizes call e) →
       (maker : Name) (serial : ℕ) (fresh : List Name) (d : Configuration) → s.handle_step p.outcome maker serial fresh c ≡ Some d → Took maker serial c d
-  handled_took p most orderly maker serial fresh d e =
+  handled_took p sizes orderly maker serial fresh d e =
       let r = ready (s.pending maker serial c) (λ m. s.handle_message p.outcome maker serial fresh m c) d e in
-      aimed maker serial r.message r.is p most orderly fresh r.message.target d r.leads
+      aimed maker serial r.message r.is p sizes orderly fresh r.message.target d r.leads
 
   -- ---- creations and posts
 
@@ -298,10 +298,10 @@ module _ (c : Configuration) (kept : KeptIn c) where
         ];
   }
 
-  pub one_step : (p : Meaning) (most : ℕ) → ((call : Call) (e : Effects) → IsOld call.me call.serial call.reply → p.outcome call ≡ Done e → IsOrderly most call e) → (setup : Setup) (one : Step) (d : Configuration) → s.step p setup c one ≡ Some d → OneStep one c d
+  pub one_step : (p : Meaning) (sizes : List ℕ) → ((call : Call) (e : Effects) → IsOld call.me call.serial call.reply → p.outcome call ≡ Done e → IsOrderly sizes call e) → (setup : Setup) (one : Step) (d : Configuration) → s.step p setup c one ≡ Some d → OneStep one c d
   unfolding s.step
-  one_step p most orderly setup (Handle m n fresh) d e = one_taken (Handle m n fresh) m n d (handled_took p most orderly m n fresh d e) (λ maker serial. refl)
-  one_step p most orderly setup (Print m n) d e = one_taken (Print m n) m n d (printed_took m n d e) (λ maker serial. refl)
-  one_step p most orderly setup (Bind m n) d e = none_taken (Bind m n) d (bound_by setup.authorities m n (fm.get c.creations (made_key m n)) d e) (λ maker serial. refl)
-  one_step p most orderly setup (Refuse m n) d e = none_taken (Refuse m n) d (refused_keeps m n (fm.get c.creations (made_key m n)) d e) (λ maker serial. refl)
-  one_step p most orderly setup (Post number to behavior handler args) d e = none_taken (Post number to behavior handler args) d (posted_keeps (p.fits_call behavior handler args) number to behavior handler args d e) (λ maker serial. refl)
+  one_step p sizes orderly setup (Handle m n fresh) d e = one_taken (Handle m n fresh) m n d (handled_took p sizes orderly m n fresh d e) (λ maker serial. refl)
+  one_step p sizes orderly setup (Print m n) d e = one_taken (Print m n) m n d (printed_took m n d e) (λ maker serial. refl)
+  one_step p sizes orderly setup (Bind m n) d e = none_taken (Bind m n) d (bound_by setup.authorities m n (fm.get c.creations (made_key m n)) d e) (λ maker serial. refl)
+  one_step p sizes orderly setup (Refuse m n) d e = none_taken (Refuse m n) d (refused_keeps m n (fm.get c.creations (made_key m n)) d e) (λ maker serial. refl)
+  one_step p sizes orderly setup (Post number to behavior handler args) d e = none_taken (Post number to behavior handler args) d (posted_keeps (p.fits_call behavior handler args) number to behavior handler args d e) (λ maker serial. refl)

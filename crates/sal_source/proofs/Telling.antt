@@ -67,8 +67,8 @@ total_less P g h (x ∷ xs) p l = omega (arith, l x p.0, total_less P g h xs p.1
 owes_same : (r : Reply) → owes (address r) r ≡ 1
 owes_same r = ap (λ b. if b then 1 else 0) ((bytes_eq-Decides (address r) (address r)).1 refl)
 
-module _ (c : Configuration) (kept : KeptIn c) (m : Message) (a : Actor × ℕ) (fresh : List Name) (e : Effects) (fewest : ℕ) (at : fm.get c.actors (name_key a.0.name) ≡ Some a) (actor : IsActor a.0.name) (owed : IsOwedOld c.actors c.posted m.reply)
-    (order : IsOrderly fewest (call_of m a fresh) e) (fits : fits_fresh fresh e c ≡ true) where
+module _ (c : Configuration) (kept : KeptIn c) (m : Message) (a : Actor × ℕ) (fresh : List Name) (e : Effects) (sizes : List ℕ) (at : fm.get c.actors (name_key a.0.name) ≡ Some a) (actor : IsActor a.0.name) (owed : IsOwedOld c.actors c.posted m.reply)
+    (order : IsOrderly sizes (call_of m a fresh) e) (fits : fits_fresh fresh e c ≡ true) where
   abbrev me : Name
   me = a.0.name
 
@@ -197,7 +197,7 @@ module _ (c : Configuration) (kept : KeptIn c) (m : Message) (a : Actor × ℕ) 
   own_after l = record {
     messages = record { at = λ key x is. tt };
     joins = each_opened AnyHere OwnHere me e.joins c.waiting.joins (each_more (Chosen (choose e.joins)) (λ j. is_full j ≡ false → OwnHere (made_key me j.number) j.reply) e.joins (λ j h shut. new j (h shut)) (chosen e.joins l))
-        (record { at = λ key j is. old_own c kept me a.1 special (omega (arith, before_me c kept m a fresh e fewest at actor owed order fits)) key j.1.reply (kept.waits.joins.at key j is) });
+        (record { at = λ key j is. old_own c kept me a.1 special (omega (arith, before_me c kept m a fresh e sizes at actor owed order fits)) key j.1.reply (kept.waits.joins.at key j is) });
   }
     where
       new : (j : Join) → (own j.reply ≡ true) ⊎ (j.number ≡ choose e.joins) → Own me a.1 special (made_key me j.number) j.reply
@@ -215,7 +215,7 @@ module _ (c : Configuration) (kept : KeptIn c) (m : Message) (a : Actor × ℕ) 
   none_open : open_far e.joins ≡ 0 → one_if (fm.contains_key after.waiting.joins special) ≡ 0
   none_open z =
       ap (λ n. one_if (fm.contains_key after.waiting.joins (made_key me n))) (none_chosen e.joins z)
-      ∙ closed_at after (kept_installed c kept m a fresh e fewest at actor owed order fits) me e.serial (omega (arith, after_me c kept m a fresh e fewest at actor owed order fits))
+      ∙ closed_at after (kept_installed c kept m a fresh e sizes at actor owed order fits) me e.serial (omega (arith, after_me c kept m a fresh e sizes at actor owed order fits))
 
   pub few_given : length (told_after (step_gives e m.reply) after.waiting) ≤ 1
   few_given =
