@@ -8,8 +8,10 @@ use Rattle.sal_handler.specs.declared.turn.Turn.{Turn}
 use Rattle.sal_handler.specs.declared.turn.Outcome.{Outcome}
 use Rattle.sal_handler.specs.declared.turn.Began.{Began}
 
--- whose handler it is, with the actor's fields and next number; the arguments; to whom the handled
--- message owes its reply; the names that new actors take; and the number of the first of them
+-- A call of a handler: the actor's name, the number of its behaviour, and its fields; the number of the
+-- handler, which is 65,535 for `migrate`, and the arguments; to whom the handled message owes its reply; the
+-- actor's next number; the names that new actors take, in this order; and the number that the first of
+-- these names has at its place, or 0 where no place is known.
 pub record Call : Type 0 where
   pub me : Name
   pub behavior : ℕ
@@ -37,5 +39,6 @@ numbered place n (suc k) = Anon place n ∷ numbered place (n + 1) k
 unfoldable pub fresh_names : ℕ → ℕ → List Name
 fresh_names place n = numbered place n 1024
 
+-- the call that a turn of the code stands for: new actors take the names of its place from its fresh number on
 abbrev pub call : Turn → Call
 call t = record { me = t.me.now; behavior = t.behavior; fields = t.fields.now; handler = t.handler; args = t.args.now; reply = t.reply.now; serial = t.serial; names = fresh_names t.place t.fresh; fresh = t.fresh }

@@ -5,13 +5,16 @@ use Rattle.sal_handler.specs.declared.state.State.{State}
 use Rattle.sal_handler.specs.declared.state.Stop.{Stop}
 use Rattle.sal_handler.specs.declared.state.Stop.TheVariants.{Trap as Trapped, NoMemory}
 
+-- a result, or the trap that came instead of it
 abbrev pub Checked : Type 0 → Type 0
 Checked A = Result A Trap
 
+-- goes on with the result; a trap stays as it is
 abbrev pub and_then : {A B : Type 0} → Checked A → (A → Checked B) → Checked B
 and_then (Ok a) f = f a
 and_then (Err k) f = Err k
 
+-- what a part of a handler does: in a state it gives a result and leaves a state, or it traps
 abbrev pub Eval : Type 0 → Type 0
 Eval A = State → Checked (A × State)
 
@@ -20,10 +23,12 @@ infixl 10 ◌>>=◌
 abbrev pub ◌>>=◌ : {A B : Type 0} → Eval A → (A → Eval B) → Eval B
 p >>= f = λ s. and_then (p s) (λ r. f r.0 r.1)
 
+-- one part, and then another that doesn't use what the first gave
 infixl 10 ◌>>◌
 abbrev pub ◌>>◌ : {A B : Type 0} → Eval A → Eval B → Eval B
 p >> q = p >>= (λ _. q)
 
+-- gives this, and leaves the state as it was
 abbrev pub pure : {A : Type 0} → A → Eval A
 pure a = λ s. Ok (a, s)
 
@@ -31,6 +36,7 @@ pure a = λ s. Ok (a, s)
 abbrev pub lift : {A : Type 0} → Checked A → Eval A
 lift outcome = λ s. and_then outcome (λ a. Ok (a, s))
 
+-- this trap, whatever the state
 abbrev pub trap : {A : Type 0} → Trap → Eval A
 trap k = λ s. Err k
 

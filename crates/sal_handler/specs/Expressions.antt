@@ -42,9 +42,11 @@ abbrev pub all : List Mean → Reads → List Value → Eval (List Value)
 all [] r done = pure done
 all (e ∷ es) r done = e r >>= (λ v. all es r (done ++ v ∷ []))
 
+-- an operator behind this value: its right side is evaluated, unless the value decides by itself
 abbrev pub operated : Part → Value → Mean
 operated p v r = if decides p.0 v then pure (Truth (is_true v)) else (p.1 r >>= (λ w. lift (operate p.0 v w)))
 
+-- operators of one rank behind this value, from left to right
 abbrev pub level : Value → List Part → Mean
 level v [] r = pure v
 level v (p ∷ ps) r = operated p v r >>= (λ w. level w ps r)
@@ -54,16 +56,19 @@ abbrev pub suffixed_by : Behind → Value → Mean
 suffixed_by (Some e) v r = e r >>= (λ i. lift (item v (int_of i)))
 suffixed_by None v r = pure (length_of v)
 
+-- indexes and `.length` behind this value, from left to right
 abbrev pub suffixed : Value → List Behind → Mean
 suffixed v [] r = pure v
 suffixed v (p ∷ ps) r = suffixed_by p v r >>= (λ w. suffixed w ps r)
 
+-- the value of an expression, if there is one
 abbrev pub perhaps : Option Mean → Reads → Eval (Option Value)
 perhaps None r = pure None
 perhaps (Some e) r = e r >>= (λ v. pure (Some v))
 
 -- ---- names and locators
 
+-- the name, or the trap `bad-name` where there is none
 abbrev pub good_name : Option Uan → Checked Uan
 good_name (Some u) = Ok u
 good_name None = Err BadName
@@ -72,6 +77,7 @@ good_name None = Err BadName
 abbrev pub name_from : Value → Eval Uan
 name_from v = lift (good_name (uan_of (text_of v)))
 
+-- the locator, or the trap `bad-locator` where there is none
 abbrev pub good_locator : Option Ual → Checked Ual
 good_locator (Some l) = Ok l
 good_locator None = Err BadLocator
@@ -83,6 +89,7 @@ locator_from (Some v) = lift (good_locator (ual_of (text_of v))) >>= (λ l. pure
 
 -- ---- new actors
 
+-- what makes the fields of a new actor, of the number of its behaviour and of the arguments of `new`
 abbrev pub Make : Type 0
 Make = ℕ → List Value → Checked (List Value)
 
@@ -90,6 +97,7 @@ Make = ℕ → List Value → Checked (List Value)
 abbrev pub room_for_actor : Eval (Unit {0})
 room_for_actor = λ s. require (nat_lt (length s.actors + length s.creations) 1024) TooManyMessages s
 
+-- an actor with these fields is made, under the next of the names for new actors; gives the reference to it
 abbrev pub add_actor : ℕ → Reads → List Value → Eval Value
 add_actor behavior r fields = λ s.
     Ok (Ref (fresh_name r.fresh (length s.actors)), record s { actors = s.actors ++ record { name = fresh_name r.fresh (length s.actors); behavior = behavior; fields = fields } ∷ [] })
@@ -98,6 +106,7 @@ add_actor behavior r fields = λ s.
 abbrev pub create : Make → ℕ → List Value → Reads → Eval Value
 create make behavior args r = room_for_actor >> (lift (make behavior args) >>= add_actor behavior r)
 
+-- a creation of this name is added, with the number n; gives the reference to the name
 abbrev pub add_creation : ℕ → Uan → Option Ual → List Value → ℕ → Eval Value
 add_creation behavior u place fields n = λ s.
     Ok (Ref (name.Uan u), record s { creations = s.creations ++ record { serial = n; name = u; place = place; behavior = behavior; fields = fields } ∷ [] })
@@ -108,15 +117,17 @@ create_at make behavior args uan ual =
     room_for_actor >> (name_from uan >>= (λ u. locator_from ual >>= (λ place. lift (make behavior args) >>= (λ fields.
     take_number >>= add_creation behavior u place fields))))
 
+-- `new` without `at`: the new actor; null in initialisers and constructors, and where no behaviour has the name
 abbrev pub create_by : Option Make → Option ℕ → List Value → Reads → Eval Value
 create_by (Some make) (Some behavior) args r = create make behavior args r
 create_by _ _ args r = pure Null
 
+-- the same of `new .. at`; where it gives null, the texts are not tested
 abbrev pub create_at_by : Option Make → Option ℕ → List Value → Value → Option Value → Eval Value
 create_at_by (Some make) (Some behavior) args uan ual = create_at make behavior args uan ual
 create_at_by _ _ args uan ual = pure Null
 
--- null where no actor may be made, or no behaviour has this name
+-- the arguments, the texts of `at`, then the new actor; null where none may be made or no behaviour has this name
 abbrev pub new : List ℕ → List Mean → Option Where → Mean
 new behavior args None r = all args r [] >>= (λ vs. create_by r.make (behavior_named behavior r.behaviors) vs r)
 new behavior args (Some texts) r =
@@ -125,6 +136,7 @@ new behavior args (Some texts) r =
 
 -- ---- expressions
 
+-- what an expression does, made of what its parts do
 abbrev pub expr_step : Expr-F Mean Behind Where Part → Mean
 expr_step (Expr-F.Number n at) r = pure (number n)
 expr_step (Expr-F.Str text at) r = lift (made (Str text))
@@ -143,13 +155,16 @@ expr_step (Expr-F.Make at sort size) r = size r >>= (λ v. lift (array_of sort (
 expr_step (Expr-F.ListOf at sort items) r = all items r [] >>= (λ vs. lift (made (Array vs)))
 expr_step (Expr-F.ByName at cast behavior text) r = text r >>= (λ v. name_from v >>= (λ u. pure (Ref (name.Uan u))))
 
+-- an index stands for what its expression does, and `.length` for none
 abbrev pub suffix_step : Suffix-F Mean Behind Where Part → Behind
 suffix_step (Suffix-F.Index at e) = Some e
 suffix_step (Suffix-F.Length at) = None
 
+-- what the text of the name does, and that of the locator, if there is one
 abbrev pub at_step : At-F Mean Behind Where Part → Where
 at_step a = (a.uan, a.ual)
 
+-- the operator, and what its right side does
 abbrev pub operand_step : Operand-F Mean Behind Where Part → Part
 operand_step p = (p.op, p.value)
 
@@ -157,14 +172,18 @@ operand_step p = (p.op, p.value)
 unfoldable pub eval : Expr → Mean
 eval = fold-Expr Mean Behind Where Part expr_step suffix_step at_step operand_step
 
+-- what an index does, or none for `.length`
 unfoldable pub suffix : Suffix → Behind
 suffix = fold-Suffix Mean Behind Where Part expr_step suffix_step at_step operand_step
 
+-- what the texts of `at` do
 unfoldable pub located : At → Where
 located = fold-At Mean Behind Where Part expr_step suffix_step at_step operand_step
 
+-- an operator, and what its right side does
 unfoldable pub operand : Operand → Part
 operand = fold-Operand Mean Behind Where Part expr_step suffix_step at_step operand_step
 
+-- what each of these expressions gives
 abbrev pub evals : List Expr → List Mean
 evals = map eval

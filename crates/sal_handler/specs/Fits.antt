@@ -24,13 +24,16 @@ are_of [] [] = true
 are_of (sort ∷ sorts) (v ∷ vs) = is_of sort v && are_of sorts vs
 are_of _ _ = false
 
+-- the types that these types' names mean
 abbrev pub sorts_of : List Behavior → List TypeName → List (Option Sort)
 sorts_of behaviors = map (λ t. type_sort t behaviors)
 
+-- the arguments are legal values of the parameters' types; none fit where there is no handler
 abbrev pub fits_handler : Option Handler → List Behavior → List Value → Bool
 fits_handler None behaviors args = false
 fits_handler (Some h) behaviors args = are_of (sorts_of behaviors (map (λ p. p.sort) h.params)) args
 
+-- the arguments fit this handler of the behaviour; none fit where there is no behaviour
 abbrev pub fits_behavior : Option Behavior → List Behavior → ℕ → List Value → Bool
 fits_behavior None behaviors handler args = false
 fits_behavior (Some b) behaviors handler args = fits_handler (slice_get (handlers_of b) handler) behaviors args
@@ -39,6 +42,7 @@ fits_behavior (Some b) behaviors handler args = fits_handler (slice_get (handler
 abbrev pub text : Option Sort
 text = Some (record { base = base.Str; dims = 0 })
 
+-- the numbers of the behaviour and the handler are those of `migrate`
 abbrev pub is_migrate : ℕ → ℕ → Bool
 is_migrate behavior handler = nat_eq behavior 65535 && nat_eq handler 65535
 
@@ -48,6 +52,7 @@ fits_call p behavior handler args =
     if is_migrate behavior handler then are_of (text ∷ []) args
     else fits_behavior (slice_get p.behaviors behavior) p.behaviors handler args
 
+-- legal values of the fields' types; none fit where there is no behaviour
 abbrev pub fits_fields : Option Behavior → List Behavior → List Value → Bool
 fits_fields None behaviors fields = false
 fits_fields (Some b) behaviors fields = are_of (sorts_of behaviors (map (λ f. f.sort) (fields_of b))) fields

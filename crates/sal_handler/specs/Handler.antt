@@ -39,6 +39,7 @@ use Rattle.sal_handler.specs.Calls.{Call}
 
 -- ---- how a body starts
 
+-- a parameter as a local that holds this argument
 abbrev pub parameter : List Behavior → Param → Value → Local
 parameter behaviors p v = record { name = p.name.text; sort = type_sort p.sort behaviors; held = held.Value v }
 
@@ -48,6 +49,7 @@ parameters behaviors [] args = []
 parameters behaviors (p ∷ ps) [] = parameter behaviors p Null ∷ parameters behaviors ps []
 parameters behaviors (p ∷ ps) (v ∷ vs) = parameter behaviors p v ∷ parameters behaviors ps vs
 
+-- the state in which a body starts: these locals, fields and next number, no turns, nothing sent or made
 abbrev pub started : List Local → List Value → ℕ → State
 started locals fields serial = record { locals = locals; fields = fields; turns = 0; serial = serial; messages = []; joins = []; places = 0; actors = []; creations = [] }
 
@@ -57,6 +59,7 @@ started locals fields serial = record { locals = locals; fields = fields; turns 
 abbrev pub alone : List Behavior → ℕ → Reads
 alone behaviors n = record { me = Outside 0; reply = reply.Nobody; behaviors = behaviors; mine = n; within = []; fresh = []; make = None }
 
+-- the initialiser, if there is one, sets the field with this number
 abbrev pub initialised : Option Expr → ℕ → Reads → Eval (Unit {0})
 initialised None i r = pure tt
 initialised (Some e) i r = eval e r >>= (λ v. λ s. Ok (tt, record s { fields = slice_set s.fields i v }))
@@ -66,6 +69,7 @@ abbrev pub all_initialised : List Field → ℕ → Reads → Eval (Unit {0})
 all_initialised [] i r = pure tt
 all_initialised (f ∷ fs) i r = initialised f.init i r >> all_initialised fs (i + 1) r
 
+-- the fields before the initialisers
 abbrev pub default_fields : List Field → List Value
 default_fields = map (λ f. default_of f.sort)
 
@@ -78,6 +82,7 @@ abbrev pub constructed : Option Handler → List Value → Reads → List Value 
 constructed None args r fields = Ok fields
 constructed (Some c) args r fields = and_then (block c.body r (started (parameters r.behaviors c.params args) fields 0)) (λ x. Ok x.1.fields)
 
+-- the fields after the initialisers and the constructor; without a behaviour, none
 abbrev pub built : Option Behavior → List Value → Reads → Checked (List Value)
 built None args r = Ok []
 built (Some b) args r = and_then (initial_fields b r) (constructed (constructor_of b) args r)
@@ -88,11 +93,13 @@ new_fields behaviors n args = built (slice_get behaviors n) args (alone behavior
 
 -- ---- a handler
 
+-- the answer: the value of `return`, null without `return`, or none where the reply was passed on
 abbrev pub answer_of : Flow → Answer
 answer_of Next = answer.Value Null
 answer_of (Returned v) = answer.Value v
 answer_of Passed = answer.Passed
 
+-- what a handler leaves that ended so in this state; `fresh` counts on by the number of its new actors
 abbrev pub effects_of : Flow → State → ℕ → Effects
 effects_of flow s fresh = record {
   fields = s.fields;
@@ -105,6 +112,7 @@ effects_of flow s fresh = record {
   fresh = fresh + length s.actors;
 }
 
+-- what the called handler reads; unlike an initialiser it can make actors
 abbrev pub reads : Program → Call → Reads
 reads p c = record { me = c.me; reply = c.reply; behaviors = p.behaviors; mine = c.behavior; within = []; fresh = c.names; make = Some (new_fields p.behaviors) }
 
@@ -112,6 +120,7 @@ reads p c = record { me = c.me; reply = c.reply; behaviors = p.behaviors; mine =
 abbrev pub unchanged : Call → Effects
 unchanged c = effects_of Next (started [] c.fields c.serial) c.fresh
 
+-- the effects of this handler, whose parameters hold the arguments; where there is none, nothing changes
 abbrev pub ran : Option Handler → Program → Call → Checked Effects
 ran None p c = Ok (unchanged c)
 ran (Some h) p c = and_then (block h.body (reads p c) (started (parameters p.behaviors h.params c.args) c.fields c.serial)) (λ x. Ok (effects_of x.0 x.1 c.fresh))
@@ -121,10 +130,12 @@ abbrev pub ran_in : Option Behavior → Program → Call → Checked Effects
 ran_in None p c = Ok (unchanged c)
 ran_in (Some b) p c = ran (slice_get (handlers_of b) c.handler) p c
 
+-- nothing changes where there is a locator, and else it traps
 abbrev pub moved : Option Ual → Call → Checked Effects
 moved (Some l) c = Ok (unchanged c)
 moved None c = Err BadLocator
 
+-- the text of the first argument; where there is none, or it is no text, the empty one
 abbrev pub first_text : List Value → List ℕ
 first_text [] = []
 first_text (v ∷ vs) = text_of v
@@ -133,13 +144,15 @@ first_text (v ∷ vs) = text_of v
 abbrev pub migrated : Call → Checked Effects
 migrated c = moved (ual_of (first_text c.args)) c
 
+-- handler 65,535 is `migrate`, whatever the behaviour; else the called handler of the actor's behaviour runs
 abbrev pub ran_from : Program → Call → Checked Effects
 ran_from p c = if nat_eq c.handler 65535 then migrated c else ran_in (slice_get p.behaviors c.behavior) p c
 
--- fewer than 4,096 numbers are left
+-- it traps where fewer than 4,096 numbers are left below 2^64, and else the called handler runs
 abbrev pub run : Program → Call → Checked Effects
 run p c = if nat_lt 18446744073709547520 c.serial then Err TooManyMessages else ran_from p c
 
+-- the effects, or the trap that undoes them
 abbrev pub outcome_of : Checked Effects → Outcome
 outcome_of (Ok e) = outcome.Done e
 outcome_of (Err k) = outcome.Trap k
@@ -150,6 +163,7 @@ handle p c = outcome_of (run p c)
 
 -- ---- the start
 
+-- the base type is `String`
 abbrev pub is_string : BaseName → Bool
 is_string base.Str = true
 is_string base.Int = false
@@ -161,6 +175,7 @@ abbrev pub is_words : List Param → Bool
 is_words (x ∷ []) = is_string x.sort.base && nat_eq x.sort.dims 1
 is_words _ = false
 
+-- there is no result
 abbrev pub is_void : Option TypeName → Bool
 is_void None = true
 is_void (Some t) = false
@@ -173,10 +188,12 @@ is_act h = is_void h.result && (bytes_eq h.name (codes "act") && is_words h.para
 abbrev pub act_in : Behavior → Option ℕ
 act_in b = numbered (position is_act (handlers_of b))
 
+-- behaviour n with this handler; where there is no handler, what was found later
 abbrev pub start_at : ℕ → Option ℕ → Option (ℕ × ℕ) → Option (ℕ × ℕ)
 start_at n (Some handler) later = Some (n, handler)
 start_at n None later = later
 
+-- the first of these behaviours with a handler `act`, and its handler; they are numbered from n on, below 65,535
 abbrev pub start_from : ℕ → List Behavior → Option (ℕ × ℕ)
 start_from n [] = None
 start_from n (b ∷ bs) = if nat_lt n 65535 then start_at n (act_in b) (start_from (n + 1) bs) else None
@@ -194,10 +211,12 @@ without_params (Some c) = if_none c.params c
     if_none [] h = Some h
     if_none (p ∷ ps) h = None
 
+-- the fields of the start actor; without a behaviour, none
 abbrev pub start_fields : Option Behavior → Reads → Checked (List Value)
 start_fields None r = Ok []
 start_fields (Some b) r = and_then (initial_fields b r) (constructed (without_params (constructor_of b)) [] r)
 
+-- the start actor with these fields, or the trap of their making
 abbrev pub began_with : ℕ → ℕ → Checked (List Value) → Began
 began_with behavior handler (Ok fields) = began.Actor behavior handler fields
 began_with behavior handler (Err k) = began.Trap k

@@ -44,18 +44,21 @@ aimed aim.Own r = pure (Some (Ref r.me))
 aimed (aim.Output at) r = pure None
 aimed (aim.Actor e) r = eval e r >>= (λ v. pure (Some v))
 
--- a whole argument that is a token's name is that token
+-- the name that an expression is, if it is nothing but a name
 abbrev pub name_alone : Expr-F Expr Suffix At Operand → Option Ident
 name_alone (Expr-F.Name name) = Some name
 name_alone _ = None
 
+-- the number that the token of this name holds, if there is a name and it is a token's
 abbrev pub token_by : Option Ident → State → Option ℕ
 token_by None s = None
 token_by (Some name) s = token_named name.text s
 
+-- a whole argument that is a token's name is that token; any other expression is none
 unfoldable pub token_of : Expr → State → Option ℕ
 token_of e s = token_by (name_alone (out-Expr e)) s
 
+-- an argument: the token with this number, or else the value of the expression
 abbrev pub piece_by : Option ℕ → Expr → Reads → Eval Piece
 piece_by (Some n) e r = pure (piece.Token n)
 piece_by None e r = eval e r >>= (λ v. pure (piece.Known v))
@@ -65,6 +68,7 @@ abbrev pub piece_before : Option ℕ → Piece
 piece_before (Some n) = piece.Token n
 piece_before None = piece.Known Null
 
+-- an argument: `token`, or the token that the expression is, or else the value of the expression
 abbrev pub piece_of : Arg → Reads → Option ℕ → Eval Piece
 piece_of (arg.Token at) r before = pure (piece_before before)
 piece_of (arg.Expr e) r before = λ s. piece_by (token_of e s) e r s
@@ -74,45 +78,50 @@ abbrev pub pieces : List Arg → Reads → Option ℕ → List Piece → Eval (L
 pieces [] r before done = pure done
 pieces (a ∷ more) r before done = piece_of a r before >>= (λ p. pieces more r before (done ++ p ∷ []))
 
--- the value of `delay`, if there is one
+-- the value of `delay`, if there is one; of several all are evaluated, and the last one counts
 abbrev pub delays : List Property → Option Value → Reads → Eval (Option Value)
 delays [] last r = pure last
 delays (property.Delay at time ∷ more) last r = eval time r >>= (λ v. delays more (Some v) r)
 delays (property.WaitFor at names ∷ more) last r = delays more last r
 
--- none where the target is null
+-- the actor that a reference refers to, or none where the value is null or no reference
 abbrev pub target_in : Value-F Value → Option Target
 target_in (Value-F.Ref n) = Some (target.Actor n)
 target_in _ = None
 
+-- without a value the output; else the actor that the value refers to, or none where it is no reference
 abbrev pub target_of : Option Value → Option Target
 target_of None = Some target.Output
 target_of (Some v) = target_in (out-Value v)
 
--- 0 to 86,400,000 ms, and 0 without a delay
+-- a delay of 0 to 86,400,000 ms, or none where the value is no such int
 abbrev pub delay_in : Value-F Value → Option ℕ
 delay_in (Value-F.Int (pos n)) = if nat_lt 86400000 n then None else Some n
 delay_in _ = None
 
+-- the delay: 0 without a value, else that of the value
 abbrev pub delay_of : Option Value → Option ℕ
 delay_of None = Some 0
 delay_of (Some v) = delay_in (out-Value v)
 
 -- ---- what it waits for
 
+-- the number alone, if there is one
 abbrev pub if_any : Option ℕ → List ℕ
 if_any None = []
 if_any (Some n) = n ∷ []
 
--- what isn't a token's name is waited for by nobody
+-- the numbers of the tokens with these names, which are waited for; a name that is no token's is left out
 abbrev pub waits : List Ident → State → List ℕ
 waits [] s = []
 waits (name ∷ names) s = if_any (token_named name.text s) ++ waits names s
 
+-- the numbers that a `waitfor` waits for; a `delay` waits for none
 abbrev pub waits_in : Property → State → List ℕ
 waits_in (property.Delay at time) s = []
 waits_in (property.WaitFor at names) s = waits names s
 
+-- the numbers that all `waitfor` of a message wait for, in the order of the text
 abbrev pub waited : List Property → State → List ℕ
 waited [] s = []
 waited (p ∷ more) s = waits_in p s ++ waited more s
@@ -126,6 +135,7 @@ befores (i ∷ is) = if_any i.before ++ befores is
 abbrev pub with_one : List ℕ → ℕ → List ℕ
 with_one done n = if list_any (λ m. m == n) done then done else done ++ n ∷ []
 
+-- the numbers behind those that are done, where of repeats the first one stays
 abbrev pub firsts : List ℕ → List ℕ → List ℕ
 firsts done [] = done
 firsts done (n ∷ ns) = firsts (with_one done n) ns
@@ -136,12 +146,12 @@ after_of properties before within s = firsts (firsts (firsts [] (waited properti
 
 -- ---- to whom the reply is owed
 
--- to the next place of the innermost join
+-- to the next place of the innermost join; outside of joins to nobody
 abbrev pub owed_place : List Inside → Reads → Eval Reply
 owed_place [] r = pure reply.Nobody
 owed_place (i ∷ is) r = next_place >>= (λ n. pure (reply.Place r.me i.join n))
 
--- the reply of the stage with this number
+-- to whom the stage with this number owes its reply
 abbrev pub owed : End → Reads → ℕ → Eval Reply
 owed end.Nobody r n = pure reply.Nobody
 owed end.Token r n = pure (reply.Tok r.me n)
@@ -154,10 +164,12 @@ owed end.Caller r n = pure r.reply
 abbrev pub no_number : ℕ
 no_number = 65534
 
+-- the number of a behaviour or handler, or the one that stands for none
 abbrev pub or_no_number : Option ℕ → ℕ
 or_no_number (Some n) = n
 or_no_number None = no_number
 
+-- to which handler a message goes: the number of its behaviour, and its own number there
 pub record Address : Type 0 where
   pub behavior : ℕ
   pub handler : ℕ
@@ -173,16 +185,19 @@ actor_address name behavior r =
     if bytes_eq name (codes "migrate") then record { behavior = 65535; handler = 65535 }
     else record { behavior = or_no_number behavior; handler = or_no_number (handler_named name (handlers_at r.behaviors behavior)) }
 
+-- to which handler of the output or of an actor a message goes, by its name and the target's behaviour
 abbrev pub address_at : Aim → List ℕ → Option ℕ → Reads → Address
 address_at (aim.Output at) name behavior r = output_address name
 address_at aim.Own name behavior r = actor_address name behavior r
 address_at (aim.Actor e) name behavior r = actor_address name behavior r
 
+-- the handler that a message goes to is fixed in the text, by its name and the type of the target
 unfoldable pub address_of : Send → Reads → State → Address
 address_of m r s = address_at m.aim m.handler.text (target_behavior m.aim (scope_of r s)) r
 
 -- ---- the stage
 
+-- the message of a stage, with the number n: the text fixes its handler, and `after_of` says what it waits for
 abbrev pub message_with : Send → Reads → Option ℕ → Target → List Piece → ℕ → ℕ → Reply → State → Message
 message_with m r before to args delay n owes s = record {
   maker = r.me;
@@ -196,9 +211,11 @@ message_with m r before to args delay n owes s = record {
   reply = owes;
 }
 
+-- the number of one more message, or a trap where it would be the 1,025th
 abbrev pub count_message : Eval ℕ
 count_message = λ s. next_number (length s.messages) s
 
+-- the stage's message, with the number n, is the newest of those that the handler sends; gives n
 abbrev pub sent : Send → Reads → Option ℕ → Target → List Piece → ℕ → ℕ → Reply → Eval ℕ
 sent m r before to args delay n owes = λ s. Ok (n, record s { messages = s.messages ++ message_with m r before to args delay n owes s ∷ [] })
 

@@ -47,10 +47,12 @@ pub record Outline : Type 0 where
   pub words : Ident
   pub prints : List Print
 
+-- the string as the argument, if there is one
 abbrev pub argument_of : Option (List ℕ × ℕ) → List Arg
 argument_of None = []
 argument_of (Some text) = arg.Expr (expr.Str text.0 text.1) ∷ []
 
+-- the syntax tree of a stage
 abbrev pub stage_of : Print → Stage
 stage_of p = stage.Message (record { aim = aim.Output p.at; handler = p.handler; args = argument_of p.text; properties = [] })
 
@@ -59,9 +61,11 @@ abbrev pub body_of : List Print → List Stmt
 body_of [] = []
 body_of (p ∷ ps) = stmt.Chain (record { stages = map stage_of (p ∷ ps) }) None ∷ []
 
+-- the parameter `String[] x`
 abbrev pub words_of : Outline → Param
 words_of o = record { sort = record { base = base.Str; dims = 1; at = o.sort }; name = o.words }
 
+-- the handler `act`
 abbrev pub act_of : Outline → Member
 act_of o = member.Handler None (record { text = codes "act"; at = o.act }) (words_of o ∷ []) (body_of o.prints)
 
@@ -69,11 +73,12 @@ act_of o = member.Handler None (record { text = codes "act"; at = o.act }) (word
 abbrev pub program_of : Outline → Program
 program_of o = record { behaviors = record { name = o.name; members = act_of o ∷ [] } ∷ [] }
 
--- each string is one that the language allows, of at most 4,096 bytes
+-- the string, if there is one, is one that the language allows, of at most 4,096 bytes
 abbrev pub IsShort : Option (List ℕ × ℕ) → Type 0
 IsShort None = Unit {0}
 IsShort (Some text) = length text.0 ≤ 4096
 
+-- the same of the strings of all stages
 abbrev pub AreShort : List Print → Type 0
 AreShort [] = Unit {0}
 AreShort (p ∷ ps) = IsShort p.text × AreShort ps
@@ -87,6 +92,7 @@ pub record IsChainOfPrints (p : Program) : Type 0 where
 
 -- ---- what its handler does
 
+-- the string as a known argument, if there is one
 abbrev pub argument_known : Option (List ℕ × ℕ) → List Piece
 argument_known None = []
 argument_known (Some text) = Known (Str text.0) ∷ []
@@ -120,6 +126,7 @@ abbrev pub chained : Name → Option ℕ → ℕ → List Print → List Message
 chained me before number [] = []
 chained me before number (p ∷ ps) = print_message me before number p (reply_before me number ps) ∷ chained me (Some number) (number + 1) ps
 
+-- the effects of `act`: one message for each stage and nothing else; no field changes, and the answer is null
 abbrev pub print_effects : Call → List Print → Effects
 print_effects c ps = record {
   fields = c.fields;

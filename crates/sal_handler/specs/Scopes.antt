@@ -31,10 +31,11 @@ pub record Reads : Type 0 where
   pub fresh : List Name
   pub make : Option (ℕ → List Value → Checked (List Value))
 
--- what the types of expressions hang on
+-- what the types of expressions need of a local: its name and its type
 abbrev pub variable_of : Local → Variable
 variable_of l = record { name = l.name; sort = l.sort }
 
+-- what the types of expressions hang on: the behaviours, the number of the present one, and the locals
 abbrev pub scope_of : Reads → State → Scope
 scope_of r s = record { behaviors = r.behaviors; mine = r.mine; locals = map variable_of s.locals }
 
@@ -53,10 +54,12 @@ abbrev pub held_value : Held → Value
 held_value (held.Value v) = v
 held_value (held.Token n) = Null
 
+-- the value of a local; of a token, and where there is no local, null
 abbrev pub local_value : Option Local → Value
 local_value (Some l) = held_value l.held
 local_value None = Null
 
+-- the value of the field with this number; where there is none, null
 abbrev pub field_at : Option ℕ → State → Value
 field_at (Some i) s = item_at s.fields i
 field_at None s = Null
@@ -65,6 +68,7 @@ field_at None s = Null
 abbrev pub read_field : List ℕ → Reads → State → Value
 read_field name r s = field_at (field_named name r) s
 
+-- the value of the local with this number, or else of the field of this name
 abbrev pub read_at : Option ℕ → List ℕ → Reads → State → Value
 read_at (Some i) name r s = local_value (slice_get s.locals i)
 read_at None name r s = read_field name r s
@@ -75,6 +79,7 @@ read name r s = read_at (local_named name s.locals) name r s
 
 -- ---- assignments
 
+-- assigns to the field with this number; where there is none, nothing changes
 abbrev pub set_field : Option ℕ → List ℤ → Value → Eval (Unit {0})
 set_field None indexes v = λ s. Ok (tt, s)
 set_field (Some i) indexes v = λ s. and_then (assigned (item_at s.fields i) indexes v) (λ w. Ok (tt, record s { fields = slice_set s.fields i w }))
@@ -84,13 +89,16 @@ abbrev pub assigned_held : Held → List ℤ → Value → Checked Held
 assigned_held (held.Value old) indexes v = and_then (assigned old indexes v) (λ w. Ok (held.Value w))
 assigned_held (held.Token n) indexes v = Ok (held.Token n)
 
+-- the locals after an assignment to this one of them; where there is none, as they were
 abbrev pub assigned_local : Option Local → List Local → ℕ → List ℤ → Value → Checked (List Local)
 assigned_local None locals i indexes v = Ok locals
 assigned_local (Some l) locals i indexes v = and_then (assigned_held l.held indexes v) (λ h. Ok (slice_set locals i (record l { held = h })))
 
+-- assigns to the local with this number
 abbrev pub set_local : ℕ → List ℤ → Value → Eval (Unit {0})
 set_local i indexes v = λ s. and_then (assigned_local (slice_get s.locals i) s.locals i indexes v) (λ ls. Ok (tt, record s { locals = ls }))
 
+-- assigns to the local with this number, or else to the field of this name
 abbrev pub set_found : Option ℕ → List ℕ → Reads → List ℤ → Value → Eval (Unit {0})
 set_found (Some i) name r indexes v = set_local i indexes v
 set_found None name r indexes v = set_field (field_named name r) indexes v
@@ -102,6 +110,7 @@ write own name r indexes v = λ s.
 
 -- ---- what is in scope
 
+-- a new local comes into scope, as the newest
 abbrev pub with_local : List ℕ → Option Sort → Held → Eval (Unit {0})
 with_local name sort h = λ s. Ok (tt, record s { locals = s.locals ++ record { name = name; sort = sort; held = h } ∷ [] })
 
@@ -113,21 +122,25 @@ declare name sort v = with_local name sort (held.Value v)
 abbrev pub declare_token : List ℕ → ℕ → Eval (Unit {0})
 declare_token name n = with_local name None (held.Token n)
 
--- what a part declares is out of scope behind it
+-- only so many locals, the oldest ones, stay in scope
 abbrev pub leave : ℕ → State → State
 leave count s = record s { locals = take count s.locals }
 
+-- does what m does; what m declares is out of scope behind it
 abbrev pub scoped : {A : Type 0} → Eval A → Eval A
 scoped m = λ s. and_then (m s) (λ r. Ok (r.0, leave (length s.locals) r.1))
 
+-- the number that a token holds; a value holds none
 abbrev pub token_in : Held → Option ℕ
 token_in (held.Token n) = Some n
 token_in (held.Value v) = None
 
+-- the number that a local holds, if there is a local and it is a token
 abbrev pub token_of_local : Option Local → Option ℕ
 token_of_local (Some l) = token_in l.held
 token_of_local None = None
 
+-- the number that the local with this number holds, if it is a token
 abbrev pub token_at : Option ℕ → State → Option ℕ
 token_at (Some i) s = token_of_local (slice_get s.locals i)
 token_at None s = None
@@ -150,10 +163,13 @@ take_number = λ s. if nat_lt s.serial 18446744073709551615 then Ok (s.serial, r
 abbrev pub next_number : ℕ → Eval ℕ
 next_number count = λ s. if nat_lt count 1024 then take_number s else Err TooManyMessages
 
--- The next place of the innermost join. A handler has at most 2,048 chains, so the test never fails.
+-- The next place of the innermost join. Each place is for one of the handler's messages or joins, of which
+-- there are at most 1,024 each, so at most 2,048 places are taken. The test against 4,096, the most items of an
+-- array, never fails.
 abbrev pub next_place : Eval ℕ
 next_place = λ s. if nat_lt s.places 4096 then Ok (s.places, record s { places = s.places + 1 }) else Err TooManyMessages
 
+-- the name; where there is none, the name number i of theatre 4,294,967,295, which stands for no theatre
 abbrev pub name_or : Option Name → ℕ → Name
 name_or (Some n) i = n
 name_or None i = Anon 4294967295 i

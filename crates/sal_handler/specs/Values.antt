@@ -31,10 +31,12 @@ default_base base.Boolean = Truth false
 default_base base.Str = Str []
 default_base (base.Actor name) = Null
 
+-- how a variable with so many pairs of brackets starts: with none as its base type does, else empty
 abbrev pub default_with : BaseName → ℕ → Value
 default_with b zero = default_base b
 default_with b (suc dims) = Array []
 
+-- what a variable of this type starts as
 unfoldable pub default_of : TypeName → Value
 default_of t = default_with t.base t.dims
 
@@ -47,51 +49,61 @@ default_item t = default_with t.base (t.dims - 1)
 abbrev pub made : Value → Checked Value
 made v = if is_legal v then Ok v else Err TooLarge
 
--- what is no int counts as 0, what is no boolean as false, what is no text and no array as empty
+-- the int in a value's form; of what is no int, 0
 abbrev pub int_in : Value-F Value → ℤ
 int_in (Value-F.Int n) = n
 int_in _ = pos 0
 
+-- the int that a value is; of what is no int, 0
 unfoldable pub int_of : Value → ℤ
 int_of v = int_in (out-Value v)
 
+-- the boolean in a value's form; of what is no boolean, false
 abbrev pub truth_in : Value-F Value → Bool
 truth_in (Value-F.Bool b) = b
 truth_in _ = false
 
+-- whether a value is true; what is no boolean isn't
 unfoldable pub is_true : Value → Bool
 is_true v = truth_in (out-Value v)
 
+-- the text in a value's form; of what is no text, the empty one
 abbrev pub text_in : Value-F Value → List ℕ
 text_in (Value-F.Str text) = text
 text_in _ = []
 
+-- the text that a value is; of what is no text, the empty one
 unfoldable pub text_of : Value → List ℕ
 text_of v = text_in (out-Value v)
 
+-- the items in a value's form; of what is no array, none
 abbrev pub items_in : Value-F Value → List Value
 items_in (Value-F.Array items) = items
 items_in _ = []
 
+-- the items of an array; of what is no array, none
 unfoldable pub items_of : Value → List Value
 items_of v = items_in (out-Value v)
 
 -- ---- operators
 
--- what is joined to a text: the decimal of an int, `true` or `false`, or the text
+-- what is joined to a text: the decimal of an int, `true` or `false`, or the text; of all else, nothing
 abbrev pub shown_in : Value-F Value → List ℕ
 shown_in (Value-F.Int n) = signed_decimal n
 shown_in (Value-F.Bool b) = if b then codes "true" else codes "false"
 shown_in (Value-F.Str text) = text
 shown_in _ = []
 
+-- what a value adds to the text that it is joined to
 unfoldable pub shown : Value → List ℕ
 shown v = shown_in (out-Value v)
 
+-- whether the form is that of a text
 abbrev pub is_text_in : Value-F Value → Bool
 is_text_in (Value-F.Str text) = true
 is_text_in _ = false
 
+-- whether a value is a text
 abbrev pub is_text : Value → Bool
 is_text v = is_text_in (out-Value v)
 
@@ -106,10 +118,11 @@ divided by x (pos zero) = Err ZeroDivisor
 divided by x (pos (suc n)) = Ok (Int (by x (pos (suc n))))
 divided by x (negsuc n) = Ok (Int (by x (negsuc n)))
 
+-- whether two names are the same, by their keys
 abbrev pub same_name : Name → Name → Bool
 same_name a b = eq_by_cmp (slice_cmp nat_cmp) (key a) (key b)
 
--- two texts are the same by their text, and two references by their name
+-- two texts are the same by their text, and two references by their name; arrays are never the same
 abbrev pub same_in : Value-F Value → Value-F Value → Bool
 same_in (Value-F.Int x) (Value-F.Int y) = int_eq x y
 same_in (Value-F.Bool x) (Value-F.Bool y) = beq x y
@@ -118,6 +131,7 @@ same_in (Value-F.Ref x) (Value-F.Ref y) = same_name x y
 same_in Value-F.Null Value-F.Null = true
 same_in _ _ = false
 
+-- what `==` tests
 unfoldable pub same : Value → Value → Bool
 same a b = same_in (out-Value a) (out-Value b)
 
@@ -143,9 +157,11 @@ decides op.Or v = is_true v
 decides op.And v = not (is_true v)
 decides _ v = false
 
+-- `-e`, which wraps; of what is no int, 0
 abbrev pub negated : Value → Value
 negated v = Int (int_wrapping_neg w32 (int_of v))
 
+-- `!e`: false of true, and true of all else
 abbrev pub inverted : Value → Value
 inverted v = Truth (not (is_true v))
 
@@ -160,10 +176,12 @@ abbrev pub place_in : ℤ → ℕ → Checked ℕ
 place_in (pos n) len = if nat_lt n len then Ok n else Err Index
 place_in (negsuc n) len = Err Index
 
+-- the value, or null where there is none
 abbrev pub value_or_null : Option Value → Value
 value_or_null (Some v) = v
 value_or_null None = Null
 
+-- the item with this number, counted from 0; behind the last one, null
 abbrev pub item_at : List Value → ℕ → Value
 item_at items i = value_or_null (slice_get items i)
 

@@ -15,6 +15,7 @@ Takes outcome old (Ok true) new = outcome ≡ Some new
 Takes outcome old (Ok false) new = (outcome ≡ None) × (new ≡ old)
 Takes outcome old (Err e) new = new ≡ old
 
+-- the item alone, if there is one
 abbrev pub listed : {A : Type 0} → Option A → List A
 listed None = []
 listed (Some a) = a ∷ []

@@ -51,9 +51,11 @@ pub record Configuration : Type 0 where
 
 -- ---- their codes, so that a type of the program can stand for them
 
+-- the code of keys and texts
 abbrev pub words_code : Coded Words
 words_code = coded_list coded_ℕ
 
+-- the code of what waits
 abbrev pub waiting_code : Coded Waiting
 waiting_code =
     code_by
@@ -63,12 +65,15 @@ waiting_code =
     (λ p. record { messages = p.0; joins = p.1 })
     (λ _. refl)
 
+-- the code of the actors with their next numbers
 abbrev pub actors_code : Coded (Table (Actor × ℕ))
 actors_code = fm.code words_code (coded× actor_row.coded coded_ℕ)
 
+-- the code of the pending creations with their makers
 abbrev pub creations_code : Coded (Table (Name × Creation))
 creations_code = fm.code words_code (coded× name_row.coded creation_row.coded)
 
+-- the code of configurations
 abbrev pub configuration_code : Coded Configuration
 configuration_code =
     code_by
@@ -84,6 +89,7 @@ configuration_code =
 abbrev pub start_name : Name
 start_name = Anon 0 0
 
+-- the start actor of this behaviour with these fields, and its next number, 0
 abbrev pub start_actor : ℕ → List Value → Actor × ℕ
 start_actor behavior fields = (record { name = start_name; behavior = behavior; fields = fields }, 0)
 
@@ -124,5 +130,6 @@ first_of words (began.Trap kind) = record {
   posted = 0;
 }
 
+-- the first configuration: how the program begins, with the words of this setup
 abbrev pub first : Meaning → Setup → Configuration
 first p setup = first_of setup.words p.begun

@@ -33,6 +33,7 @@ open_after j = cond (is_full j.1) None (Some j)
 abbrev pub array_of : Join → List Given
 array_of j = cond (is_full j) ((j.reply, collected j) ∷ []) []
 
+-- an open join with the value at this place, where it was empty
 abbrev pub place_filled : ℕ → Value → Name × Join → Name × Join
 place_filled at value j = (j.0, filled at value j.1)
 
@@ -73,9 +74,11 @@ answers_to (Place owner join at) value = []
 abbrev pub give_one : Given → Waiting → Waiting
 give_one g w = cond (is_legal g.1) (give_to g.0 g.1 w) w
 
+-- what a reply gives on; a value that isn't legal gives nothing
 abbrev pub released : Given → Waiting → List Given
 released g w = cond (is_legal g.1) (gives_on g.0 g.1 w) []
 
+-- the answer to a call from outside that a reply is, if it is one and its value is legal
 abbrev pub answer_of : Given → List (ℕ × Value)
 answer_of g = cond (is_legal g.1) (answers_to g.0 g.1) []
 
@@ -97,9 +100,11 @@ told_by (suc n) (g ∷ gs) w = answer_of g ++ told_by n (released g w ++ gs) (gi
 abbrev pub most : List Given → Waiting → ℕ
 most gs w = length gs + fm.len w.joins
 
+-- what waits once these replies, and those that they release, were given
 abbrev pub settled : List Given → Waiting → Waiting
 settled gs w = settle (most gs w) gs w
 
+-- the answers to calls from outside that are told on the way
 abbrev pub told_after : List Given → Waiting → List (ℕ × Value)
 told_after gs w = told_by (most gs w) gs w
 

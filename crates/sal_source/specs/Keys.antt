@@ -10,6 +10,7 @@ use Rattle.sal_mail.specs.declared.effects.Actor.{Actor}
 use Rattle.sal_mail.specs.declared.effects.Creation.{Creation}
 use Rattle.sal_source.specs.Table.{Words}
 
+-- the key of a name, by which names are told apart
 abbrev pub name_key : Name → Words
 name_key = key
 
@@ -17,6 +18,7 @@ name_key = key
 abbrev pub made_key : Name → ℕ → Words
 made_key maker serial = serial ∷ name_key maker
 
+-- the key of a message: its number and its maker
 abbrev pub message_key : Message → Words
 message_key m = made_key m.maker m.serial
 

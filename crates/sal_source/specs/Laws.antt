@@ -19,6 +19,7 @@ owed a gs w = total (λ g. owes a g.0) gs + weigh (λ m. owes a m.reply) w.messa
 abbrev pub IsOwedOnce : List Given → Waiting → Type 0
 IsOwedOnce gs w = (r : Reply) → r ≢ Nobody → owed (address r) gs w ≤ 1
 
+-- the configuration without the answers that were told
 abbrev pub without_answers : Configuration → Configuration
 without_answers c = record c { answers = [] }
 

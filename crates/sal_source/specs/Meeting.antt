@@ -58,10 +58,12 @@ pub record IsChange (e : Effects) (reply : Reply) (a : Actor × ℕ) (pending : 
   pub creations : change.creations ≡ s.put_creations a.0.name e.creations pending
   pub enters : Enters a.0.name e.messages e.joins e.answer reply old change.waiting change.answers
 
+-- the target is `standardOutput`
 abbrev pub is_output : Target → Bool
 is_output target.Output = true
 is_output (target.Actor n) = false
 
+-- what waits but for the message with this maker and number
 abbrev pub without : Name → ℕ → Waiting → Waiting
 without maker serial w = record w { messages = write w.messages (made_key maker serial) None }
 
@@ -70,6 +72,7 @@ abbrev pub Makes : Name → ℕ → Effects → Configuration → Option Change 
 Makes maker serial e c None = (m : Message) (a : Actor × ℕ) → CalledBy maker serial c m a → ⊥
 Makes maker serial e c (Some change) = (m : Message) (a : Actor × ℕ) → CalledBy maker serial c m a → IsChange e m.reply a c.creations (without maker serial c.waiting) change
 
+-- the configuration with a handler's change: its actor, what it made, what waits then, and the answers
 abbrev pub committed : Change → Configuration → Configuration
 committed change c = record c {
   actors = write (s.put_actors change.actors c.actors) (actor_key change.actor) (Some change.actor);

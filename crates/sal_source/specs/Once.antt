@@ -18,6 +18,7 @@ use Rattle.sal_source.specs.Run.{play}
 
 -- ---- messages
 
+-- 1 where it holds, else 0
 abbrev pub one_if : Bool → ℕ
 one_if b = if b then 1 else 0
 
@@ -35,6 +36,7 @@ MessagesAreTakenOnce = (p : Program) (setup : Setup) (ss : List Step) (end : Con
 
 -- ---- joins
 
+-- the next number of an actor, or 0 where there is none
 abbrev pub number_of : Option (Actor × ℕ) → ℕ
 number_of None = 0
 number_of (Some a) = a.1
@@ -45,6 +47,7 @@ next_number actors posted (Anon theatre n) = number_of (fm.get actors (name_key 
 next_number actors posted (Uan u) = number_of (fm.get actors (name_key (Uan u)))
 next_number actors posted (Outside n) = one_if (nat_le n posted)
 
+-- there is an open join with this owner and number
 abbrev pub is_open : Name → ℕ → Configuration → Bool
 is_open owner number c = fm.contains_key c.waiting.joins (made_key owner number)
 

@@ -14,6 +14,7 @@ use Rattle.sal_source.specs.Table.{Table}
 use Rattle.sal_source.specs.Keys.{name_key}
 use Rattle.sal_source.specs.Step.{is_served}
 
+-- there is an actor of the target's name, or the target is the output
 abbrev pub has_taker : Table (Actor × ℕ) → Target → Bool
 has_taker actors target.Output = true
 has_taker actors (target.Actor n) = is_some (fm.get actors (name_key n))

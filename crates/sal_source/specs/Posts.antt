@@ -13,11 +13,13 @@ use Rattle.sal_mail.specs.declared.message.Piece.TheVariants.{Known}
 use Rattle.sal_mail.specs.declared.message.Reply.TheVariants as reply
 use Rattle.sal_mail.specs.declared.message.Target.TheVariants as target
 
+-- the name is a universal one
 abbrev pub is_universal : Name → Bool
 is_universal (name.Uan u) = true
 is_universal (name.Anon theatre number) = false
 is_universal (name.Outside number) = false
 
+-- whether a value's form holds no names but universal ones, by whether the items of an array do
 abbrev pub universal_step : Value-F Bool → Bool
 universal_step (Value-F.Ref n) = is_universal n
 universal_step (Value-F.Array items) = list_all (λ b. b) items

@@ -23,11 +23,13 @@ string_in (Some text) = text.0
 abbrev pub line_of : Print → List ℕ
 line_of p = if bytes_eq p.handler.text (codes "println") then string_in p.text ++ 10 ∷ [] else string_in p.text
 
+-- what the stages print, one text for each
 abbrev pub lines_of : List Print → List (List ℕ)
 lines_of = map line_of
 
 -- ---- its run: `act` is handled, and then the stages are printed one after another
 
+-- so many messages that the start actor made are printed in turn, from this number on
 abbrev pub print_steps : ℕ → ℕ → List Step
 print_steps number zero = []
 print_steps number (suc n) = step.Print (Anon 0 0) number ∷ print_steps (number + 1) n

@@ -40,25 +40,29 @@ use Rattle.sal_source.specs.Posts.{fits_post, post_message}
 
 -- ---- what is put, and what goes
 
+-- the message is pending at its maker and number, without its delay
 abbrev pub put_message : Message → Table Message → Table Message
 put_message m t = write t (message_key m) (Some (undelayed m))
 
--- of two with one number the first stays
+-- all of these messages; of two with one maker and number the first stays
 abbrev pub put_messages : List Message → Table Message → Table Message
 put_messages [] t = t
 put_messages (m ∷ ms) t = put_message m (put_messages ms t)
 
+-- the join of this owner is open at its number
 abbrev pub put_join : Name → Join → Table (Name × Join) → Table (Name × Join)
 put_join owner j t = write t (made_key owner j.number) (Some (owner, j))
 
--- those that are open yet
+-- those of the joins that are open yet; of two with one number the first stays
 abbrev pub put_joins : Name → List Join → Table (Name × Join) → Table (Name × Join)
 put_joins owner [] t = t
 put_joins owner (j ∷ js) t = if is_full j then put_joins owner js t else put_join owner j (put_joins owner js t)
 
+-- the creation by this maker is pending at its number
 abbrev pub put_creation : Name → Creation → Table (Name × Creation) → Table (Name × Creation)
 put_creation maker x t = write t (made_key maker x.serial) (Some (maker, x))
 
+-- all of these creations; of two with one number the first stays
 abbrev pub put_creations : Name → List Creation → Table (Name × Creation) → Table (Name × Creation)
 put_creations maker [] t = t
 put_creations maker (x ∷ xs) t = put_creation maker x (put_creations maker xs t)
@@ -68,6 +72,7 @@ abbrev pub put_actors : List Actor → Table (Actor × ℕ) → Table (Actor × 
 put_actors [] t = t
 put_actors (a ∷ actors) t = write (put_actors actors t) (name_key a.name) (Some (a, 0))
 
+-- the names of these actors are given, too
 abbrev pub give_names : List Actor → fs.FinSet words_cmp → fs.FinSet words_cmp
 give_names [] given = given
 give_names (a ∷ actors) given = fs.insert (give_names actors given) (name_key a.name)
@@ -76,9 +81,11 @@ give_names (a ∷ actors) given = fs.insert (give_names actors given) (name_key 
 abbrev pub drop_message : Name → ℕ → Configuration → Configuration
 drop_message maker serial c = record c { waiting = record c.waiting { messages = write c.waiting.messages (made_key maker serial) None } }
 
+-- the fault is told, behind the earlier ones, with the maker and number of the message or creation
 abbrev pub add_fault : FaultKind → Name → ℕ → Configuration → Configuration
 add_fault kind maker serial c = record c { faults = c.faults ++ record { maker = maker; serial = serial; kind = kind } ∷ [] }
 
+-- the printed text is told, behind the earlier ones
 abbrev pub add_output : List ℕ → Configuration → Configuration
 add_output text c = record c { output = c.output ++ text ∷ [] }
 
@@ -106,14 +113,17 @@ call_of m a fresh = record {
   fresh = 0;
 }
 
+-- the name is that of an actor without a universal name
 abbrev pub is_anonymous : Name → Bool
 is_anonymous (name.Anon theatre number) = true
 is_anonymous (name.Uan u) = false
 is_anonymous (name.Outside number) = false
 
+-- an anonymous name that was never given
 abbrev pub is_new : fs.FinSet words_cmp → Name → Bool
 is_new given n = is_anonymous n && not (fs.contains given (name_key n))
 
+-- no name is there twice
 abbrev pub are_different : List Name → Bool
 are_different [] = true
 are_different (n ∷ names) = not (list_any (λ m. words_eq (name_key n) (name_key m)) names) && are_different names
@@ -168,26 +178,30 @@ abbrev pub handled : (Call → Outcome) → Name → ℕ → List Name → Messa
 handled outcomes maker serial fresh m a c =
     if understands a.0 m then after_outcome (outcomes (call_of m a fresh)) maker serial fresh m a.0 c else unnamed fresh (add_fault NoHandler maker serial c)
 
+-- a message that went meets its actor; where there is none, the step isn't possible
 abbrev pub handled_by : (Call → Outcome) → Name → ℕ → List Name → Message → Option (Actor × ℕ) → Configuration → Option Configuration
 handled_by outcomes maker serial fresh m None c = None
 handled_by outcomes maker serial fresh m (Some a) c = handled outcomes maker serial fresh m a c
 
+-- the actor that the target names, with its next number; the output has none
 abbrev pub actor_at : Target → Configuration → Option (Actor × ℕ)
 actor_at (target.Actor n) c = fm.get c.actors (name_key n)
 actor_at target.Output c = None
 
+-- the message goes, and meets the actor of its target
 abbrev pub handle_message : (Call → Outcome) → Name → ℕ → List Name → Message → Configuration → Option Configuration
 handle_message outcomes maker serial fresh m c = handled_by outcomes maker serial fresh m (actor_at m.target c) (drop_message maker serial c)
 
 -- ---- printing a message
 
--- a text, an int's decimal, or a boolean's word
+-- a text, an int's decimal, or a boolean's word; of all else, nothing
 abbrev pub value_text : Value → List ℕ
 value_text (v.Str text) = text
 value_text (v.Int n) = signed_decimal n
 value_text (v.Bool b) = if b then codes "true" else codes "false"
 value_text _ = []
 
+-- the text of a known argument; a token has none
 abbrev pub piece_text : Piece → List ℕ
 piece_text (Known value) = value_text value
 piece_text (Token number) = []
@@ -201,6 +215,7 @@ argument_text _ = []
 abbrev pub printed : Message → List ℕ
 printed m = if nat_eq m.handler 1 then argument_text m.args ++ 10 ∷ [] else argument_text m.args
 
+-- a message that went is printed, and null is given to its reply; only the output prints
 abbrev pub print_to : Target → Message → Configuration → Option Configuration
 print_to target.Output m c = Some (give m.reply v.Null (add_output (printed m) c))
 print_to (target.Actor n) m c = None
@@ -215,9 +230,11 @@ print_message maker serial m c = print_to m.target m (drop_message maker serial 
 abbrev pub serves : Authority → Uan → Bool
 serves a u = bytes_eq a.host u.host && nat_eq a.port u.port
 
+-- the naming service of the name is among these
 abbrev pub is_served : List Authority → Uan → Bool
 is_served authorities u = list_any (λ a. serves a u) authorities
 
+-- the creation's name was given before
 abbrev pub is_given : Creation → Configuration → Bool
 is_given x c = fs.contains c.given (name_key (name.Uan x.name))
 
@@ -225,6 +242,7 @@ is_given x c = fs.contains c.given (name_key (name.Uan x.name))
 abbrev pub drop_creation : Name → ℕ → Configuration → Configuration
 drop_creation maker serial c = record c { creations = write c.creations (made_key maker serial) None }
 
+-- the actor that a creation makes, under its universal name
 abbrev pub bound_actor : Creation → Actor
 bound_actor x = record { name = name.Uan x.name; behavior = x.behavior; fields = x.fields }
 
@@ -232,10 +250,12 @@ bound_actor x = record { name = name.Uan x.name; behavior = x.behavior; fields =
 abbrev pub bound : Creation → Configuration → Configuration
 bound x c = record c { actors = write c.actors (name_key (name.Uan x.name)) (Some (bound_actor x, 0)); given = fs.insert c.given (name_key (name.Uan x.name)) }
 
+-- a pending creation is bound where its naming service is there and its name was never given
 abbrev pub bind : List Authority → Name → ℕ → Option (Name × Creation) → Configuration → Option Configuration
 bind authorities maker serial None c = None
 bind authorities maker serial (Some x) c = if is_served authorities x.1.name && not (is_given x.1 c) then Some (bound x.1 (drop_creation maker serial c)) else None
 
+-- a pending creation is refused, with the fault `name-taken`, where its name was given
 abbrev pub refuse : Name → ℕ → Option (Name × Creation) → Configuration → Option Configuration
 refuse maker serial None c = None
 refuse maker serial (Some x) c = if is_given x.1 c then Some (add_fault NameTaken maker serial (drop_creation maker serial c)) else None
@@ -247,6 +267,7 @@ abbrev pub ready_only : Option Message → (Message → Option Configuration) �
 ready_only None f = None
 ready_only (Some m) f = if is_ready m then f m else None
 
+-- the pending message with this maker and number, if there is one
 abbrev pub pending : Name → ℕ → Configuration → Option Message
 pending maker serial c = fm.get c.waiting.messages (made_key maker serial)
 
@@ -282,6 +303,7 @@ step p setup c (Bind maker serial) = bind_step setup.authorities maker serial c
 step p setup c (Refuse maker serial) = refuse_step maker serial c
 step p setup c (Post number to behavior handler args) = post_step (p.fits_call behavior handler args) number to behavior handler args c
 
+-- the step is a post
 abbrev pub is_post : Step → Bool
 is_post (Post number to behavior handler args) = true
 is_post (Handle maker serial fresh) = false

@@ -6,15 +6,19 @@ use Rattle.std.specs.declared.cmp.Ordering.{Ordering}
 use Rattle.std.specs.FinMap as fm
 use Rattle.std.specs.FinSet as fs
 
+-- a key: a list of numbers
 abbrev pub Words : Type 0
 Words = List ℕ
 
+-- the order of keys: by the first numbers that differ, and a key before those that it begins
 abbrev pub words_cmp : Words → Words → Ordering
 words_cmp = slice_cmp nat_cmp
 
+-- two keys are the same
 abbrev pub words_eq : Words → Words → Bool
 words_eq = eq_by_cmp words_cmp
 
+-- a finite table, with at most one value at each key
 abbrev pub Table : Type 0 → Type 0
 Table X = fm.FinMap words_cmp X
 
