@@ -10,6 +10,7 @@ use Rattle.sal_ast.specs.declared.program.Member.{Member}
 use Rattle.sal_ast.specs.declared.program.Member.TheVariants as member
 use Rattle.sal_ast.specs.declared.program.Behavior.{Behavior}
 
+-- a field: its name, its type, and its initialiser, if it has one
 pub record Field : Type 0 where
   pub name : List ℕ
   pub sort : TypeName
@@ -22,24 +23,29 @@ pub record Handler : Type 0 where
   pub params : List Param
   pub body : List Stmt
 
+-- the field that a member is, if it is one
 abbrev pub as_field : Member → Option Field
 as_field (member.Field sort name init) = Some (record { name = name.text; sort = sort; init = init })
 as_field (member.Constructor name params body) = None
 as_field (member.Handler result name params body) = None
 
+-- the handler that a member is, if it is one
 abbrev pub as_handler : Member → Option Handler
 as_handler (member.Handler result name params body) = Some (record { name = name.text; result = result; params = params; body = body })
 as_handler (member.Field sort name init) = None
 as_handler (member.Constructor name params body) = None
 
+-- the constructor that a member is, if it is one
 abbrev pub as_constructor : Member → Option Handler
 as_constructor (member.Constructor name params body) = Some (record { name = name.text; result = None; params = params; body = body })
 as_constructor (member.Field sort name init) = None
 as_constructor (member.Handler result name params body) = None
 
+-- the fields of a behaviour, in the order of the text
 unfoldable pub fields_of : Behavior → List Field
 fields_of b = filter_map as_field b.members
 
+-- the handlers of a behaviour, in the order of the text
 unfoldable pub handlers_of : Behavior → List Handler
 handlers_of b = filter_map as_handler b.members
 

@@ -34,6 +34,7 @@ use Rattle.sal_ast.specs.Members.{Field, Handler, fields_of, behavior_named, han
 abbrev pub with_dims : Base → ℕ → Option Sort
 with_dims b dims = if nat_lt 8 dims then None else Some (record { base = b; dims = dims })
 
+-- a type without brackets
 abbrev pub plain : Base → Option Sort
 plain b = Some (record { base = b; dims = 0 })
 
@@ -41,12 +42,14 @@ plain b = Some (record { base = b; dims = 0 })
 abbrev pub actor_named : List ℕ → List Behavior → Option Base
 actor_named name behaviors = option_map base.Actor (behavior_named name behaviors)
 
+-- what the name of a base type means, if it is known
 abbrev pub base_of : BaseName → List Behavior → Option Base
 base_of word.Int behaviors = Some base.Int
 base_of word.Boolean behaviors = Some base.Bool
 base_of word.Str behaviors = Some base.Str
 base_of (word.Actor name) behaviors = actor_named name behaviors
 
+-- the type with so many pairs of brackets
 abbrev pub sort_with : Option Base → ℕ → Option Sort
 sort_with None dims = None
 sort_with (Some b) dims = with_dims b dims
@@ -82,13 +85,16 @@ pub record Scope : Type 0 where
   pub mine : ℕ
   pub locals : List Variable
 
+-- the fields of a behaviour, or none
 abbrev pub fields_in : Option Behavior → List Field
 fields_in None = []
 fields_in (Some b) = fields_of b
 
+-- the fields of the behaviour that is looked at
 abbrev pub own_fields : Scope → List Field
 own_fields s = fields_in (slice_get s.behaviors s.mine)
 
+-- the type of a field, if there is one
 abbrev pub sort_of_field : Option Field → List Behavior → Option Sort
 sort_of_field None behaviors = None
 sort_of_field (Some f) behaviors = type_sort f.sort behaviors
@@ -97,6 +103,7 @@ sort_of_field (Some f) behaviors = type_sort f.sort behaviors
 unfoldable pub field_sort : List ℕ → Scope → Option Sort
 field_sort name s = sort_of_field (find (λ f. bytes_eq f.name name) (own_fields s)) s.behaviors
 
+-- the type of a local, or of the field where there is none
 abbrev pub sort_of_local : Option Variable → Option Sort → Option Sort
 sort_of_local None field = field
 sort_of_local (Some v) field = v.sort
@@ -107,13 +114,16 @@ name_sort name s = sort_of_local (find (λ v. bytes_eq v.name name) s.locals) (f
 
 -- ---- expressions
 
+-- a type, or none, that hangs on what is in scope
 abbrev pub Sorted : Type 0
 Sorted = Scope → Option Sort
 
+-- `String` without brackets
 abbrev pub is_text_base : Base → ℕ → Bool
 is_text_base base.Str zero = true
 is_text_base _ _ = false
 
+-- whether values of this type are texts
 abbrev pub is_text : Option Sort → Bool
 is_text None = false
 is_text (Some s) = is_text_base s.base s.dims
@@ -127,6 +137,7 @@ operator_sort op.Div a b = plain base.Int
 operator_sort op.Rem a b = plain base.Int
 operator_sort _ a b = plain base.Bool
 
+-- operators of one level, from left to right
 abbrev pub level_sort : Option Sort → List (Op × Sorted) → Scope → Option Sort
 level_sort a [] s = a
 level_sort a (p ∷ ps) s = level_sort (operator_sort p.0 a (p.1 s)) ps s
@@ -136,10 +147,12 @@ abbrev pub suffix_sort : Bool → Option Sort → Option Sort
 suffix_sort true a = item_sort a
 suffix_sort false a = plain base.Int
 
+-- indexes and `.length`, from left to right
 abbrev pub suffixed_sort : Option Sort → List Bool → Option Sort
 suffixed_sort a [] = a
 suffixed_sort a (p ∷ ps) = suffixed_sort (suffix_sort p a) ps
 
+-- the type of each form of expression, made of the types of its parts; `null` has none
 abbrev pub sort_step : Expr-F Sorted Bool (Unit {0}) (Op × Sorted) → Sorted
 sort_step (Expr-F.Number n at) s = plain base.Int
 sort_step (Expr-F.Str text at) s = plain base.Str
@@ -158,13 +171,16 @@ sort_step (Expr-F.Make at sort size) s = type_sort sort s.behaviors
 sort_step (Expr-F.ListOf at sort items) s = type_sort sort s.behaviors
 sort_step (Expr-F.ByName at cast behavior name) s = sort_with (actor_named behavior.text s.behaviors) 0
 
+-- whether it is an index
 abbrev pub suffix_step : Suffix-F Sorted Bool (Unit {0}) (Op × Sorted) → Bool
 suffix_step (Suffix-F.Index at e) = true
 suffix_step (Suffix-F.Length at) = false
 
+-- where an actor is created says nothing of its type
 abbrev pub at_step : At-F Sorted Bool (Unit {0}) (Op × Sorted) → Unit {0}
 at_step a = tt
 
+-- an operator with the type of its right side
 abbrev pub operand_step : Operand-F Sorted Bool (Unit {0}) (Op × Sorted) → Op × Sorted
 operand_step p = (p.op, p.value)
 
@@ -194,10 +210,12 @@ abbrev pub result_sort : Option TypeName → List Behavior → Option Sort
 result_sort None behaviors = plain base.Void
 result_sort (Some t) behaviors = type_sort t behaviors
 
+-- the result of a handler; of none there is no type
 abbrev pub handler_result : Option Handler → List Behavior → Option Sort
 handler_result None behaviors = None
 handler_result (Some h) behaviors = result_sort h.result behaviors
 
+-- the result of the first handler of this name in the behaviour
 abbrev pub declared_result : List ℕ → Option ℕ → List Behavior → Option Sort
 declared_result name behavior behaviors = handler_result (find (λ h. bytes_eq h.name name) (handlers_at behaviors behavior)) behaviors
 
@@ -205,6 +223,7 @@ declared_result name behavior behaviors = handler_result (find (λ h. bytes_eq h
 abbrev pub actor_result : List ℕ → Option ℕ → List Behavior → Option Sort
 actor_result name behavior behaviors = if bytes_eq name (codes "migrate") then plain base.Void else declared_result name behavior behaviors
 
+-- what a message of this name to this target replies; the output replies nothing, which is void
 abbrev pub aim_result : Aim → List ℕ → Scope → Option Sort
 aim_result (aim.Output at) name s = plain base.Void
 aim_result aim.Own name s = actor_result name (Some s.mine) s.behaviors
@@ -221,16 +240,20 @@ pub record Seen : Type 0 where
   pub scope : Scope
   pub result : Option (Option Sort)
 
+-- what a part does to the scope, and the first chain's result in it
 abbrev pub Sees : Type 0
 Sees = Scope → Seen
 
+-- the first result of two, if there is one
 abbrev pub first_of : Option (Option Sort) → Option (Option Sort) → Option (Option Sort)
 first_of None later = later
 first_of (Some r) later = Some r
 
+-- one more local, the newest
 abbrev pub with_local : List ℕ → Option Sort → Scope → Scope
 with_local name sort s = record s { locals = s.locals ++ record { name = name; sort = sort } ∷ [] }
 
+-- nothing is declared, and there is no chain
 abbrev pub nothing_in : Scope → Seen
 nothing_in s = record { scope = s; result = None }
 
@@ -238,20 +261,25 @@ nothing_in s = record { scope = s; result = None }
 abbrev pub inside : Sees → Sees
 inside m s = record { scope = s; result = (m s).result }
 
+-- one part and then another, in the scope that the first leaves
 abbrev pub together : Sees → Sees → Sees
 together m n s = record { scope = (n (m s).scope).scope; result = first_of (m s).result (n (m s).scope).result }
 
+-- several parts, one after another
 abbrev pub sees_all : List Sees → Sees
 sees_all [] s = nothing_in s
 sees_all (m ∷ ms) s = together m (sees_all ms) s
 
+-- what stands behind `else`, if there is an `else`
 abbrev pub sees_else : Option Sees → Sees
 sees_else None s = nothing_in s
 sees_else (Some m) s = inside m s
 
+-- a declaration adds its local
 abbrev pub sees_declared : Declare → Sees
 sees_declared d s = nothing_in (with_local d.name.text (type_sort d.sort s.behaviors) s)
 
+-- the first part of a `for`
 abbrev pub sees_begun : ForInit → Sees
 sees_begun init.Nothing s = nothing_in s
 sees_begun (init.Declare d) s = sees_declared d s
@@ -266,6 +294,7 @@ join_sort (Some s) = if is_void_base s.base then Some s else array_sort (Some s)
     is_void_base base.Void = true
     is_void_base _ = false
 
+-- the result of a join by that of its first own chain; without a chain there is no type
 abbrev pub join_result : Option (Option Sort) → Option Sort
 join_result None = None
 join_result (Some r) = join_sort r
@@ -275,10 +304,12 @@ abbrev pub last_result : Option Sort → List Sorted → Scope → Option Sort
 last_result before [] s = before
 last_result before (m ∷ ms) s = last_result (m s) ms s
 
+-- the result of a stage: a message's reply, or a join's array
 abbrev pub see_stage : Stage-F Sorted Sees Sorted → Sorted
 see_stage (Stage-F.Message m) s = message_result m s
 see_stage (Stage-F.Join at body) s = join_result (sees_all body s).result
 
+-- what each kind of statement adds to the scope, and its first chain's result
 abbrev pub see_stmt : Stmt-F Sorted Sees Sorted → Sees
 see_stmt (Stmt-F.Empty at) s = nothing_in s
 see_stmt (Stmt-F.Block at list) s = inside (sees_all list) s
@@ -291,6 +322,7 @@ see_stmt (Stmt-F.Return at value) s = nothing_in s
 see_stmt (Stmt-F.Token at name chain) s = nothing_in (with_local name.text None s)
 see_stmt (Stmt-F.Chain chain passed) s = record { scope = s; result = Some (chain s) }
 
+-- the result of a chain, made of those of its stages
 abbrev pub see_chain : Chain-F Sorted Sees Sorted → Sorted
 see_chain c = last_result None c.stages
 
@@ -303,6 +335,7 @@ sees = fold-Stmt Sorted Sees Sorted see_stage see_stmt see_chain
 unfoldable pub result_of : Chain → Sorted
 result_of = fold-Chain Sorted Sees Sorted see_stage see_stmt see_chain
 
+-- whether it is `void`
 abbrev pub is_void : Option Sort → Bool
 is_void None = false
 is_void (Some s) = is_void_alone s.base s.dims
@@ -311,6 +344,7 @@ is_void (Some s) = is_void_alone s.base s.dims
     is_void_alone base.Void zero = true
     is_void_alone _ _ = false
 
+-- whether there is a chain whose result is `void`
 abbrev pub is_void_result : Option (Option Sort) → Bool
 is_void_result None = false
 is_void_result (Some r) = is_void r

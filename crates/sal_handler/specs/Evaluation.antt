@@ -20,11 +20,13 @@ Eval A = State → Checked (A × State)
 
 -- one part, and then another that may use what the first gave
 infixl 10 ◌>>=◌
+-- one part, and then another that takes what the first gives; the first trap is the result
 abbrev pub ◌>>=◌ : {A B : Type 0} → Eval A → (A → Eval B) → Eval B
 p >>= f = λ s. and_then (p s) (λ r. f r.0 r.1)
 
 -- one part, and then another that doesn't use what the first gave
 infixl 10 ◌>>◌
+-- one part, and then another
 abbrev pub ◌>>◌ : {A B : Type 0} → Eval A → Eval B → Eval B
 p >> q = p >>= (λ _. q)
 

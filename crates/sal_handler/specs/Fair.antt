@@ -34,12 +34,14 @@ abbrev pub EachOf : {X : Type 0} → (X → Type 0) → List X → Type 0
 EachOf P [] = Unit {0}
 EachOf P (x ∷ xs) = P x × EachOf P xs
 
+-- the sum of a number of each item
 abbrev pub total : {X : Type 0} → (X → ℕ) → List X → ℕ
 total f [] = 0
 total f (x ∷ xs) = f x + total f xs
 
 -- ---- numbers
 
+-- 1 where the two are one number, else 0
 abbrev pub is_number : ℕ → ℕ → ℕ
 is_number k n = if nat_eq k n then 1 else 0
 
@@ -68,6 +70,7 @@ abbrev pub sizes_of_stage : Stage-F (List ℕ) (List ℕ) (List ℕ) → List �
 sizes_of_stage (Stage-F.Message m) = length m.args ∷ []
 sizes_of_stage (Stage-F.Join at body) = all_of body
 
+-- how many arguments the message stages in a statement have
 abbrev pub sizes_of_stmt : Stmt-F (List ℕ) (List ℕ) (List ℕ) → List ℕ
 sizes_of_stmt (Stmt-F.Empty at) = []
 sizes_of_stmt (Stmt-F.Block at list) = all_of list
@@ -81,18 +84,23 @@ sizes_of_stmt (Stmt-F.Return at value) = []
 sizes_of_stmt (Stmt-F.Token at name chain) = chain
 sizes_of_stmt (Stmt-F.Chain chain passed) = chain
 
+-- how many arguments the message stages in a chain have
 abbrev pub sizes_of_chain : Chain-F (List ℕ) (List ℕ) (List ℕ) → List ℕ
 sizes_of_chain c = all_of c.stages
 
+-- of a stage as a tree
 unfoldable pub stage_sizes : Stage → List ℕ
 stage_sizes = fold-Stage (List ℕ) (List ℕ) (List ℕ) sizes_of_stage sizes_of_stmt sizes_of_chain
 
+-- of a statement as a tree
 unfoldable pub stmt_sizes : Stmt → List ℕ
 stmt_sizes = fold-Stmt (List ℕ) (List ℕ) (List ℕ) sizes_of_stage sizes_of_stmt sizes_of_chain
 
+-- of a chain as a tree
 unfoldable pub chain_sizes : Chain → List ℕ
 chain_sizes = fold-Chain (List ℕ) (List ℕ) (List ℕ) sizes_of_stage sizes_of_stmt sizes_of_chain
 
+-- of the statements of a body
 abbrev pub body_sizes : List Stmt → List ℕ
 body_sizes body = all_of (map stmt_sizes body)
 
@@ -102,6 +110,7 @@ program_sizes p = all_of (map (λ b. all_of (map (λ h. body_sizes h.body) (hand
 
 -- ---- messages
 
+-- the value passes no limit, and has a spelling
 abbrev pub Legal : Value → Type 0
 Legal v = is_legal v ≡ true
 
@@ -110,6 +119,7 @@ abbrev pub WaitsWithin : ℕ → ℕ → Piece → Type 0
 WaitsWithin from to (Known v) = Unit {0}
 WaitsWithin from to (Token n) = IsWithin from to n
 
+-- a known value is legal; of a token nothing is asked
 abbrev pub IsLegalPiece : Piece → Type 0
 IsLegalPiece (Known v) = Legal v
 IsLegalPiece (Token n) = Unit {0}
@@ -135,6 +145,7 @@ pub record IsGoodMessage (me : Name) (caller : Reply) (from to : ℕ) (sizes : L
 
 -- ---- replies
 
+-- 1 where the reply is owed to this address, else 0
 abbrev pub owes : List ℕ → Reply → ℕ
 owes a r = if bytes_eq a (address r) then 1 else 0
 
@@ -188,6 +199,7 @@ pub record IsOrderly (sizes : List ℕ) (c : Call) (e : Effects) : Type 0 where
   pub names : AreNamed c.names 0 e.actors
   pub count : length e.fields ≡ length c.fields
 
+-- orderly, and all values are legal
 pub record IsFair (sizes : List ℕ) (c : Call) (e : Effects) : Type 0 where
   pub order : IsOrderly sizes c e
   -- known values and fields are legal

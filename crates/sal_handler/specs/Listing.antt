@@ -27,23 +27,28 @@ use Rattle.sal_mail.specs.declared.message.Target.TheVariants as target
 use Rattle.sal_mail.specs.declared.message.Message.{Message}
 use Rattle.sal_handler.specs.Prints.{waits_for}
 
+-- the stages of a chain as a statement; of other statements none
 abbrev pub stages_at : Stmt-F Stage Stmt Chain → List Stage
 stages_at (Stmt-F.Chain c passed) = c.stages
 stages_at _ = []
 
+-- the stages of a body of one statement
 abbrev pub stages_in_body : List Stmt → List Stage
 stages_in_body (x ∷ []) = stages_at (out-Stmt x)
 stages_in_body _ = []
 
+-- the stages of a handler
 abbrev pub stages_in_member : Member → List Stage
 stages_in_member (member.Handler result name params body) = stages_in_body body
 stages_in_member (member.Field sort name init) = []
 stages_in_member (member.Constructor name params body) = []
 
+-- the stages of a behaviour with one member
 abbrev pub stages_in_behavior : List Member → List Stage
 stages_in_behavior (m ∷ []) = stages_in_member m
 stages_in_behavior _ = []
 
+-- the stages of a program with one behaviour
 abbrev pub stages_in_behaviors : List Behavior → List Stage
 stages_in_behaviors (b ∷ []) = stages_in_behavior b.members
 stages_in_behaviors _ = []
@@ -52,17 +57,21 @@ stages_in_behaviors _ = []
 abbrev pub stages_in : Program → List Stage
 stages_in p = stages_in_behaviors p.behaviors
 
+-- a string as a known argument; of other expressions none
 abbrev pub string_at : Expr-F Expr Suffix At Operand → List Piece
 string_at (Expr-F.Str text at) = Known (Str text) ∷ []
 string_at _ = []
 
+-- the one argument, if it is a string
 abbrev pub argument_in : List Arg → List Piece
 argument_in (arg.Expr e ∷ []) = string_at (out-Expr e)
 argument_in _ = []
 
+-- `println` is handler 1 of the output, and `print` handler 0
 abbrev pub output_handler : List ℕ → ℕ
 output_handler name = if bytes_eq name (codes "println") then 1 else 0
 
+-- a message to the output
 abbrev pub listed : Name → Option ℕ → ℕ → ℕ → List Piece → Reply → Message
 listed me before number handler args owes = record {
   maker = me;
@@ -76,13 +85,16 @@ listed me before number handler args owes = record {
   reply = owes;
 }
 
+-- the message of a stage
 abbrev pub message_at : Name → Option ℕ → ℕ → Stage-F Stage Stmt Chain → Reply → Message
 message_at me before number (Stage-F.Message m) owes = listed me before number (output_handler m.handler.text) (argument_in m.args) owes
 message_at me before number (Stage-F.Join at body) owes = listed me before number 0 [] owes
 
+-- the message of a stage as a tree
 unfoldable pub message_in : Name → Option ℕ → ℕ → Stage → Reply → Message
 message_in me before number x owes = message_at me before number (out-Stage x) owes
 
+-- a stage before another one owes its reply to its token, and the last one to nobody
 abbrev pub owed_before : Name → ℕ → List Stage → Reply
 owed_before me number [] = reply.Nobody
 owed_before me number (x ∷ xs) = reply.Tok me number
@@ -92,6 +104,7 @@ abbrev pub owed_left : Name → ℕ → ℕ → Reply
 owed_left me number zero = reply.Nobody
 owed_left me number (suc n) = reply.Tok me number
 
+-- the messages of a chain, from this number on
 unfoldable pub messages_in : Name → Option ℕ → ℕ → List Stage → List Message
 messages_in me before number [] = []
 messages_in me before number (x ∷ xs) = message_in me before number x (owed_before me number xs) ∷ messages_in me (Some number) (number + 1) xs

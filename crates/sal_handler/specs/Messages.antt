@@ -174,7 +174,7 @@ pub record Address : Type 0 where
   pub behavior : ℕ
   pub handler : ℕ
 
--- `print` is handler 0 and `println` is handler 1 of the output, whose behaviour is 65,535
+-- `println` is handler 1 of the output, whose behaviour is 65,535; any other name counts as `print`, handler 0
 abbrev pub output_address : List ℕ → Address
 output_address name = record { behavior = 65535; handler = if bytes_eq name (codes "println") then 1 else 0 }
 

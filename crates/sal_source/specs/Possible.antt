@@ -23,6 +23,6 @@ has_taker actors (target.Actor n) = is_some (fm.get actors (name_key n))
 abbrev pub is_possible : Table (Actor × ℕ) → Message → Bool
 is_possible actors m = is_ready m && has_taker actors m.target
 
--- the creation's name was given, or its naming service is there
+-- there is an actor of the creation's name, or its naming service is there
 abbrev pub is_decided : List Authority → Table (Actor × ℕ) → Name × Creation → Bool
 is_decided authorities actors x = fm.contains_key actors (name_key (name.Uan x.1.name)) || is_served authorities x.1.name
