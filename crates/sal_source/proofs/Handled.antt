@@ -19,7 +19,7 @@ use Rattle.sal_mail.specs.declared.fault.FaultKind.TheVariants.{NameTaken}
 use Rattle.sal_handler.specs.Calls.{Call}
 use Rattle.sal_handler.specs.declared.turn.Outcome.{Outcome}
 use Rattle.sal_handler.specs.declared.turn.Outcome.TheVariants as outcome
-use Rattle.sal_source.specs.declared.config.Change.{Change}
+use Rattle.sal_source.specs.declared.run.Change.{Change}
 use Rattle.sal_source.specs.Table.{write}
 use Rattle.sal_source.specs.Keys.{name_key, made_key, actor_key}
 use Rattle.sal_source.specs.Configuration.{Waiting, Configuration}

@@ -1,4 +1,3 @@
-pub mod Adding
 pub mod Answering
 pub mod Commute
 pub mod Ends
@@ -10,6 +9,7 @@ pub mod Keeping
 pub mod Legal
 pub mod Listing
 pub mod Loops
+pub mod Mapping
 pub mod Never
 pub mod Once
 pub mod Places

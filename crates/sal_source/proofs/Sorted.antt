@@ -1,14 +1,14 @@
 -- Sorted lists: searching in them, and putting an item in.
-use Rattle.std.proofs.Common.{◌≡◌, ◌⊎◌, inl, inr, ℕ, zero, suc, ◌+◌, ◌<◌, ◌≤◌, Bool, true, false, cond, ◌&&◌, T, List, [], ◌∷◌, map, length, Some, None, refl, sym, ap, subst, ◌∙◌, arith, true≢false, Ordering, Less, Equal, Greater}
-use Rattle.std.specs.Prelude.{slice_get, slice_set, insert, remove}
+use Rattle.std.proofs.Common.{◌≡◌, ◌⊎◌, inl, inr, ℕ, zero, suc, ◌+◌, ◌<◌, ◌≤◌, Bool, true, false, cond, ◌&&◌, T, List, [], ◌∷◌, map, length, Some, None, refl, sym, ap, subst, ◌∙◌, arith, Ordering, Less, Equal, Greater}
+use Rattle.std.specs.Prelude.{slice_get}
 use Rattle.std.specs.Ordering.{is_lt, is_eq, ordering_reverse}
 use Rattle.std.proofs.lemmas.Option.{slice_get_past}
 use Rattle.std.proofs.lemmas.Cmp.{nat_list_cmp_total}
 use Rattle.std.specs.Cmp.{tied_itself}
 use Rattle.std.specs.FinMap.Entries as es
-use Rattle.sal_source.specs.Table.{Words, words_cmp, words_eq, write, table_of}
+use Rattle.sal_source.specs.Table.{Words, words_cmp, words_eq}
 use Rattle.sal_source.specs.Listed.{found, IsFirst, IsSorted, SplitsAt}
-use Rattle.sal_source.proofs.Tables.{words_tells, words_refl, same_words, same_table, get-write, get-table_of}
+use Rattle.sal_source.proofs.Tables.{words_tells, words_refl, same_words}
 
 some_is : {A : Type 0} {a b : A} → Some a ≡ Some b → a ≡ b
 some_is e = cc
@@ -24,7 +24,7 @@ second : (a b : Bool) → T (a && b) → T b
 second true b p = p
 second false b p = absurd p
 
-both : (a b : Bool) → T a → T b → T (a && b)
+pub both : (a b : Bool) → T a → T b → T (a && b)
 both true b p q = q
 both false b p q = p
 
@@ -33,7 +33,7 @@ less Less p = refl
 less Equal p = absurd p
 less Greater p = absurd p
 
-lt : (a b : Words) → words_cmp a b ≡ Less → T (is_lt (words_cmp a b))
+pub lt : (a b : Words) → words_cmp a b ≡ Less → T (is_lt (words_cmp a b))
 lt a b e = subst (λ r. T (is_lt r)) (sym e) tt
 
 flipped : (a b : Words) → words_cmp a b ≡ Greater → words_cmp b a ≡ Less
@@ -127,23 +127,11 @@ module _ {X : Type 0} (key : X → Words) where
       here (z ∷ xs) zero s e = (ap (λ w. words_eq (key x) (key w)) (some_is e) ∙ words_refl (key x), some_is e)
       here (z ∷ xs) (suc i) s e = (apart_less (key z) (key x) (below_get (key z) xs i x (first _ _ s) e), here xs i (second _ _ s) e)
 
-  -- ---- an item is put in
+  -- ---- nothing is found
 
   below_less : (x y : Words) (xs : List X) → words_cmp x y ≡ Less → T (es.below_all words_cmp y (keyed xs)) → T (es.below_all words_cmp x (keyed xs))
   below_less x y [] p h = tt
   below_less x y (z ∷ xs) p h = both _ _ (lt x (key z) (nat_list_cmp_total.trans x y (key z) p (less _ (first _ _ h)))) (below_less x y xs p (second _ _ h))
-
-  below_insert : (k : Words) (xs : List X) (at : ℕ) (a : X) → words_cmp k (key a) ≡ Less → T (es.below_all words_cmp k (keyed xs)) → T (es.below_all words_cmp k (keyed (insert xs at a)))
-  below_insert k [] zero a l h = both _ _ (lt k (key a) l) tt
-  below_insert k [] (suc at) a l h = both _ _ (lt k (key a) l) tt
-  below_insert k (x ∷ xs) zero a l h = both _ _ (lt k (key a) l) h
-  below_insert k (x ∷ xs) (suc at) a l h = both _ _ (first _ _ h) (below_insert k xs at a l (second _ _ h))
-
-  pub sorted_insert : (xs : List X) (at : ℕ) (a : X) → IsSorted key xs → SplitsAt key (key a) xs at → IsSorted key (insert xs at a)
-  sorted_insert [] zero a s p = tt
-  sorted_insert [] (suc at) a s p = tt
-  sorted_insert (x ∷ xs) zero a s p = both _ _ (both _ _ (lt (key a) (key x) p) (below_less (key a) (key x) xs p (first _ _ s))) s
-  sorted_insert (x ∷ xs) (suc at) a s p = both _ _ (below_insert (key x) xs at a p.0 (first _ _ s)) (sorted_insert xs at a (second _ _ s) p.1)
 
   found_below : (q : Words) (xs : List X) → T (es.below_all words_cmp q (keyed xs)) → found key q xs ≡ None
   found_below q [] h = refl
@@ -153,33 +141,3 @@ module _ {X : Type 0} (key : X → Words) where
   none_at q [] at s p = refl
   none_at q (x ∷ xs) zero s p = ap (λ b. cond b (Some x) (found key q xs)) (apart_more q (key x) p) ∙ found_below q xs (below_less q (key x) xs p (first _ _ s))
   none_at q (x ∷ xs) (suc at) s p = ap (λ b. cond b (Some x) (found key q xs)) (apart_less (key x) q p.0) ∙ none_at q xs at (second _ _ s) p.1
-
-  found_insert : (q : Words) (xs : List X) (at : ℕ) (a : X) → SplitsAt key (key a) xs at → found key q (insert xs at a) ≡ cond (words_eq q (key a)) (Some a) (found key q xs)
-  found_insert q [] zero a p = refl
-  found_insert q [] (suc at) a p = refl
-  found_insert q (x ∷ xs) zero a p = refl
-  found_insert q (x ∷ xs) (suc at) a p = ap (cond (words_eq q (key x)) (Some x)) (found_insert q xs at a p.1) ∙ swap (words_eq q (key x)) (words_eq q (key a)) (λ e f. differ e f)
-    where
-      differ : words_eq q (key x) ≡ true → words_eq q (key a) ≡ true → ⊥
-      differ e f = true≢false (sym (words_refl (key a)) ∙ ap (words_eq (key a)) (sym (same_words q (key a) f) ∙ same_words q (key x) e) ∙ apart_less (key x) (key a) p.0)
-
-      swap : (b c : Bool) → (b ≡ true → c ≡ true → ⊥) → cond b (Some x) (cond c (Some a) (found key q xs)) ≡ cond c (Some a) (cond b (Some x) (found key q xs))
-      swap true true h = absurd (h refl refl)
-      swap true false h = refl
-      swap false c h = refl
-
-  pub table_insert : (xs : List X) (at : ℕ) (a : X) → SplitsAt key (key a) xs at → table_of key (insert xs at a) ≡ write (table_of key xs) (key a) (Some a)
-  table_insert xs at a p = same_table _ _ (λ q. get-table_of key (insert xs at a) q ∙ found_insert q xs at a p ∙ ap (cond (words_eq q (key a)) (Some a)) (sym (get-table_of key xs q)) ∙ sym (get-write (table_of key xs) (key a) (Some a) q))
-
--- ---- what is undone
-
-pub remove_insert : {X : Type 0} (xs : List X) (at : ℕ) (a : X) → at ≤ length xs → remove (insert xs at a) at ≡ xs
-remove_insert [] zero a le = refl
-remove_insert [] (suc at) a le = absurd (omega arith)
-remove_insert (x ∷ xs) zero a le = refl
-remove_insert (x ∷ xs) (suc at) a le = ap (λ l. x ∷ l) (remove_insert xs at a (omega arith))
-
-pub set_back : {X : Type 0} (xs : List X) (at : ℕ) (a b : X) → slice_get xs at ≡ Some b → slice_set (slice_set xs at a) at b ≡ xs
-set_back [] at a b e = absurd (none_some e)
-set_back (x ∷ xs) zero a b e = ap (λ y. y ∷ xs) (sym (some_is e))
-set_back (x ∷ xs) (suc at) a b e = ap (λ l. x ∷ l) (set_back xs at a b e)

@@ -10,5 +10,6 @@ pub mod Laws
 pub mod Once
 pub mod Prints
 pub mod Listed
+pub mod Mapped
 pub mod Changes
 pub mod Meeting

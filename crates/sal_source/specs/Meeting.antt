@@ -24,9 +24,10 @@ use Rattle.sal_source.specs.Configuration.{Waiting, Configuration}
 use Rattle.sal_source.specs.Give.{settled, told_after, give}
 use Rattle.sal_source.specs.Step as s
 use Rattle.sal_source.specs.Changes.{Takes}
-use Rattle.sal_source.specs.declared.config.Met.{Met}
-use Rattle.sal_source.specs.declared.config.Met.TheVariants as met
-use Rattle.sal_source.specs.declared.config.Change.{Change}
+use Rattle.sal_source.specs.Mapped.{actor_of}
+use Rattle.sal_source.specs.declared.run.Met.{Met}
+use Rattle.sal_source.specs.declared.run.Met.TheVariants as met
+use Rattle.sal_source.specs.declared.run.Change.{Change}
 
 -- this message is to be handled, by this actor
 pub record CalledBy (maker : Name) (serial : ℕ) (c : Configuration) (m : Message) (a : Actor × ℕ) : Type 0 where
@@ -39,7 +40,7 @@ pub record CalledBy (maker : Name) (serial : ℕ) (c : Configuration) (m : Messa
 abbrev pub Meets : Name → ℕ → Configuration → Met → Type 0
 Meets maker serial c met.Nobody = (outcomes : Call → Outcome) (fresh : List Name) → s.handle_step outcomes maker serial fresh c ≡ None
 Meets maker serial c met.NoHandler = (outcomes : Call → Outcome) (fresh : List Name) → s.handle_step outcomes maker serial fresh c ≡ s.unhandled maker serial fresh c
-Meets maker serial c (met.Handler m a) = CalledBy maker serial c m.now a.now
+Meets maker serial c (met.Handler m name state) = CalledBy maker serial c m.now (actor_of (name.now, state.now))
 
 -- what the handler's outcome leaves
 abbrev pub After : Name → ℕ → List Name → Outcome → Configuration → Result Bool NoMemory → Configuration → Type 0

@@ -6,7 +6,7 @@ ghost use Rattle.sal_source.specs.Table.{keys_of, words_eq};
 ghost use Rattle.sal_source.specs.Keys.{name_key};
 ghost use Rattle.sal_source.specs.Step as spec;
 
-use crate::actors::Actors;
+use crate::actor_map::ActorMap;
 use crate::made::same_name;
 use sal_value::Name;
 
@@ -21,13 +21,13 @@ fn is_anonymous(name: &Name) -> bool
 }
 
 #[tactic(auto, using(crate::proofs::Given::contains_keys))]
-fn is_new(actors: &Actors, name: &Name) -> bool
+fn is_new(actors: &ActorMap, name: &Name) -> bool
     ensures { result ≡ spec.is_new (keys_of actors.now) name.now }
 {
     is_anonymous(name) && !actors.contains(name)
 }
 
-fn are_new(actors: &Actors, names: &[Name]) -> bool
+fn are_new(actors: &ActorMap, names: &[Name]) -> bool
     ensures { result ≡ list_all (spec.is_new (keys_of actors.now)) names.now }
 {
     for name in names {
@@ -63,7 +63,7 @@ fn are_different(names: &[Name]) -> bool
 }
 
 /// Whether they are different anonymous names that were never given.
-pub fn are_fresh(names: &[Name], actors: &Actors) -> bool
+pub fn are_fresh(names: &[Name], actors: &ActorMap) -> bool
     ensures { result ≡ spec.are_fresh names.now (keys_of actors.now) }
 {
     are_new(actors, names) && are_different(names)

@@ -1,6 +1,7 @@
 //! The meaning of actor programs, by configurations and steps.
 #![tactic(auto)]
 
+mod actor_map;
 mod actors;
 mod config;
 mod copies;
@@ -13,6 +14,7 @@ mod messages;
 mod player;
 mod posts;
 mod printing;
+mod run;
 mod services;
 mod state;
 #[cfg(test)]
@@ -20,8 +22,10 @@ mod tests;
 mod trace;
 mod waiting;
 
-pub use config::{Config, Met};
+pub use actor_map::ActorState;
+pub use config::Config;
 pub use law::{chains_of_prints_run, replies_commute};
 pub use player::play;
+pub use run::{Met, Run};
 pub use state::{PlayFault, Setup, Step};
 pub use trace::trace_of;

@@ -7,25 +7,28 @@ ghost use Rattle.sal_handler.specs.Prints.{IsChainOfPrints};
 ghost use Rattle.sal_source.specs.Configuration as configuration;
 ghost use Rattle.sal_source.specs.Step as spec;
 ghost use Rattle.sal_source.specs.Run.{Plays};
+ghost use Rattle.sal_source.specs.Mapped.{actor_of};
 ghost use Rattle.sal_source.specs.Changes.{Takes};
 
-use crate::config::{Config, Met};
+use crate::actor_map::ActorState;
+use crate::config::Config;
 use crate::copies;
 use crate::messages::known_values;
+use crate::run::{Met, Run};
 use crate::state::{PlayFault, Setup, Step};
 use sal_ast::Program;
 use sal_handler::{Outcome, Turn, begin_prints, fits_prints, handle_prints};
-use sal_mail::{Actor, Message};
+use sal_mail::Message;
 use sal_value::{Name, NoMemory, Values};
 use std::alloc::Global;
 
-/// The first configuration of a program.
-fn first(alloc: Global, program: &Program, setup: &Setup) -> Result<Config, NoMemory>
+/// The run of no step.
+fn first(alloc: Global, program: &Program, setup: &Setup) -> Result<Run, NoMemory>
     requires form { IsChainOfPrints program.now }
     ensures { IfOk result (λ c. c ≡ configuration.first (meaning_of program.now) setup.now) }
 {
     let words = copies::values(alloc, setup.words.as_slice())?;
-    Config::start(alloc, begin_prints(alloc, program), words)
+    Run::start(alloc, begin_prints(alloc, program), words)
 }
 
 /// The outcome for these arguments. No handler of such a program makes an actor, so no name is needed.
@@ -33,22 +36,22 @@ fn outcome_for(
     alloc: Global,
     program: &Program,
     message: &Message,
-    actor: &(Actor, u64),
+    name: &Name,
+    state: &ActorState,
     fresh: &[Name],
     args: &Values,
 ) -> Result<Outcome, NoMemory>
     requires form { IsChainOfPrints program.now }
-    ensures { IfOk result (λ it. it ≡ handle program.now (record (spec.call_of message.now actor.now fresh.now) { args = args.now })) }
+    ensures { IfOk result (λ it. it ≡ handle program.now (record (spec.call_of message.now (actor_of (name.now, state.now)) fresh.now) { args = args.now })) }
 {
-    let (it, next) = actor;
     let turn = Turn {
-        me: &it.name,
-        behavior: it.behavior,
-        fields: &it.fields,
+        me: name,
+        behavior: state.behavior,
+        fields: &state.fields,
         handler: message.handler,
         args,
         reply: &message.reply,
-        serial: *next,
+        serial: state.next,
         place: 0,
         fresh: 0,
     };
@@ -59,33 +62,34 @@ fn outcome_at(
     alloc: Global,
     program: &Program,
     message: &Message,
-    actor: &(Actor, u64),
+    name: &Name,
+    state: &ActorState,
     fresh: &[Name],
 ) -> Result<Outcome, NoMemory>
     requires form { IsChainOfPrints program.now }
-    ensures { IfOk result (λ it. it ≡ handle program.now (spec.call_of message.now actor.now fresh.now)) }
+    ensures { IfOk result (λ it. it ≡ handle program.now (spec.call_of message.now (actor_of (name.now, state.now)) fresh.now)) }
 {
     let args = known_values(alloc, message.args.as_slice())?;
-    outcome_for(alloc, program, message, actor, fresh, &args)
+    outcome_for(alloc, program, message, name, state, fresh, &args)
 }
 
 fn handle_step(
     alloc: Global,
     program: &Program,
-    config: &mut Config,
+    run: &mut Run,
     maker: &Name,
     serial: u64,
     fresh: &[Name],
 ) -> Result<bool, NoMemory>
     requires form { IsChainOfPrints program.now }
-    ensures { Takes (spec.handle_step (meaning_of program.now).outcome maker.now serial fresh.now config.old) config.old result config.new }
+    ensures { Takes (spec.handle_step (meaning_of program.now).outcome maker.now serial fresh.now run.old) run.old result run.new }
 {
-    match config.meets(maker, serial) {
+    match run.meets(maker, serial) {
         Met::Nobody => Ok(false),
-        Met::NoHandler => config.no_handler(alloc, maker, serial, fresh),
-        Met::Handler(message, actor) => {
-            let outcome = outcome_at(alloc, program, message, actor, fresh)?;
-            config.handled(alloc, maker, serial, fresh, outcome)
+        Met::NoHandler => run.no_handler(alloc, maker, serial, fresh),
+        Met::Handler(message, name, state) => {
+            let outcome = outcome_at(alloc, program, message, name, state, fresh)?;
+            run.handled(alloc, maker, serial, fresh, outcome)
         }
     }
 }
@@ -96,23 +100,23 @@ fn step(
     alloc: Global,
     program: &Program,
     setup: &Setup,
-    config: &mut Config,
+    run: &mut Run,
     step: &Step,
 ) -> Result<bool, NoMemory>
     requires form { IsChainOfPrints program.now }
-    ensures { Takes (spec.step (meaning_of program.now) setup.now config.old step.now) config.old result config.new }
+    ensures { Takes (spec.step (meaning_of program.now) setup.now run.old step.now) run.old result run.new }
 {
     match step {
         Step::Handle {
             maker,
             serial,
             fresh,
-        } => handle_step(alloc, program, config, maker, *serial, fresh.as_slice()),
-        Step::Print { maker, serial } => config.print(alloc, maker, *serial),
+        } => handle_step(alloc, program, run, maker, *serial, fresh.as_slice()),
+        Step::Print { maker, serial } => run.print(alloc, maker, *serial),
         Step::Bind { maker, serial } => {
-            config.bind(alloc, setup.authorities.as_slice(), maker, *serial)
+            run.bind(alloc, setup.authorities.as_slice(), maker, *serial)
         }
-        Step::Refuse { maker, serial } => config.refuse(alloc, maker, *serial),
+        Step::Refuse { maker, serial } => run.refuse(alloc, maker, *serial),
         Step::Post {
             number,
             target,
@@ -122,7 +126,7 @@ fn step(
         } => {
             let args = args.as_slice();
             let fits = fits_prints(program, *behavior, *handler, args);
-            config.post(alloc, fits, *number, target, *behavior, *handler, args)
+            run.post(alloc, fits, *number, target, *behavior, *handler, args)
         }
     }
 }
@@ -138,11 +142,11 @@ pub fn play(
     requires form { IsChainOfPrints program.now }
     ensures { Plays program.now setup.now steps.now result }
 {
-    let mut config = first(alloc, program, setup)?;
+    let mut run = first(alloc, program, setup)?;
     for (i, one) in steps.iter().enumerate() {
-        if !step(alloc, program, setup, &mut config, one)? {
+        if !step(alloc, program, setup, &mut run, one)? {
             return Err(PlayFault::BadStep(i));
         }
     }
-    Ok(config)
+    Ok(run.config(alloc)?)
 }

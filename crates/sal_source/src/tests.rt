@@ -5,13 +5,13 @@ use sal_value::{Authority, List, Name, NoMemory, Text, Uan, Value};
 use std::alloc::Global;
 use std::test::Fail;
 
-fn started(alloc: Global) -> Result<Config, NoMemory> {
+fn started(alloc: Global) -> Result<Run, NoMemory> {
     let began = Began::Actor {
         behavior: 0,
         handler: 0,
         fields: List::new(alloc),
     };
-    Config::start(alloc, began, List::new(alloc))
+    Run::start(alloc, began, List::new(alloc))
 }
 
 /// What a handler leaves that answers this value.
@@ -34,8 +34,8 @@ fn leaving(
     })
 }
 
-fn act(alloc: Global, config: &mut Config, outcome: Outcome) -> Result<bool, NoMemory> {
-    config.handled(alloc, &Name::Outside(0), 0, &[], outcome)
+fn act(alloc: Global, run: &mut Run, outcome: Outcome) -> Result<bool, NoMemory> {
+    run.handled(alloc, &Name::Outside(0), 0, &[], outcome)
 }
 
 fn fault(config: &Config) -> Option<FaultKind> {
@@ -86,14 +86,14 @@ fn one_join(alloc: Global) -> Result<List<Join>, NoMemory> {
     Ok(joins)
 }
 
-fn opens_join(alloc: Global, config: &mut Config) -> Result<bool, NoMemory> {
+fn opens_join(alloc: Global, run: &mut Run) -> Result<bool, NoMemory> {
     let messages = replying(alloc)?;
     let joins = one_join(alloc)?;
     let outcome = leaving(alloc, Value::Null, messages, joins, List::new(alloc));
-    act(alloc, config, outcome)
+    act(alloc, run, outcome)
 }
 
-fn replies(alloc: Global, config: &mut Config, serial: u64, value: i32) -> Result<bool, NoMemory> {
+fn replies(alloc: Global, run: &mut Run, serial: u64, value: i32) -> Result<bool, NoMemory> {
     let value = Value::Int(value);
     let outcome = leaving(
         alloc,
@@ -102,17 +102,17 @@ fn replies(alloc: Global, config: &mut Config, serial: u64, value: i32) -> Resul
         List::new(alloc),
         List::new(alloc),
     );
-    config.handled(alloc, &Name::Anon(0, 0), serial, &[], outcome)
+    run.handled(alloc, &Name::Anon(0, 0), serial, &[], outcome)
 }
 
-/// Whether the join stays open for three replies, of which one comes to a full place.
-fn stays_open(alloc: Global, config: &mut Config) -> Result<bool, NoMemory> {
+/// The run after three replies, of which one comes to a full place.
+fn three_replies(alloc: Global) -> Result<Run, NoMemory> {
+    let mut run = started(alloc)?;
+    opens_join(alloc, &mut run)?;
     for (serial, value) in [(1, 3), (2, 9), (3, 2)] {
-        if !replies(alloc, config, serial, value)? {
-            return Ok(false);
-        }
+        replies(alloc, &mut run, serial, value)?;
     }
-    Ok(config.answers().is_empty())
+    Ok(run)
 }
 
 fn one_to_three(alloc: Global) -> Result<Value, NoMemory> {
@@ -132,11 +132,18 @@ fn is_answered(alloc: Global, config: &Config) -> Result<bool, NoMemory> {
 }
 
 #[test]
+fn a_join_waits_for_its_last_place(rt: HostRuntime) -> Result<(), Fail> {
+    let config = three_replies(rt.alloc())?.config(rt.alloc())?;
+    assert!(rt; config.answers().is_empty());
+    assert_eq!(rt; config.pending(), (1, 0, 1));
+    Ok(())
+}
+
+#[test]
 fn a_join_keeps_each_value_at_its_place(rt: HostRuntime) -> Result<(), Fail> {
-    let mut config = started(rt.alloc())?;
-    assert!(rt; opens_join(rt.alloc(), &mut config)?);
-    assert!(rt; stays_open(rt.alloc(), &mut config)?);
-    assert!(rt; replies(rt.alloc(), &mut config, 4, 1)?);
+    let mut run = three_replies(rt.alloc())?;
+    assert!(rt; replies(rt.alloc(), &mut run, 4, 1)?);
+    let config = run.config(rt.alloc())?;
     assert!(rt; is_answered(rt.alloc(), &config)?);
     assert_eq!(rt; config.pending(), (0, 0, 0));
     Ok(())
@@ -144,14 +151,15 @@ fn a_join_keeps_each_value_at_its_place(rt: HostRuntime) -> Result<(), Fail> {
 
 #[test]
 fn a_trap_leaves_its_fault_alone(rt: HostRuntime) -> Result<(), Fail> {
-    let mut config = started(rt.alloc())?;
-    assert!(rt; act(rt.alloc(), &mut config, Outcome::Trap(Trap::ZeroDivisor))?);
+    let mut run = started(rt.alloc())?;
+    assert!(rt; act(rt.alloc(), &mut run, Outcome::Trap(Trap::ZeroDivisor))?);
+    let config = run.config(rt.alloc())?;
     assert_eq!(rt; fault(&config), Some(FaultKind::Trap(Trap::ZeroDivisor)));
     assert_eq!(rt; config.pending(), (0, 0, 0));
     Ok(())
 }
 
-fn sends_to_other(alloc: Global, config: &mut Config) -> Result<bool, NoMemory> {
+fn sends_to_other(alloc: Global, run: &mut Run) -> Result<bool, NoMemory> {
     let mut messages = List::new(alloc);
     messages.push(message(alloc, 1, 3, Reply::Outside(7)))?;
     let outcome = leaving(
@@ -161,14 +169,15 @@ fn sends_to_other(alloc: Global, config: &mut Config) -> Result<bool, NoMemory> 
         List::new(alloc),
         List::new(alloc),
     );
-    act(alloc, config, outcome)
+    act(alloc, run, outcome)
 }
 
 #[test]
 fn a_message_of_another_behavior_meets_no_handler(rt: HostRuntime) -> Result<(), Fail> {
-    let mut config = started(rt.alloc())?;
-    assert!(rt; sends_to_other(rt.alloc(), &mut config)?);
-    assert!(rt; replies(rt.alloc(), &mut config, 1, 1)?);
+    let mut run = started(rt.alloc())?;
+    assert!(rt; sends_to_other(rt.alloc(), &mut run)?);
+    assert!(rt; replies(rt.alloc(), &mut run, 1, 1)?);
+    let config = run.config(rt.alloc())?;
     assert_eq!(rt; fault(&config), Some(FaultKind::NoHandler));
     assert!(rt; config.answers().is_empty());
     Ok(())
@@ -203,7 +212,7 @@ fn creation(alloc: Global, serial: u64) -> Result<Creation, NoMemory> {
 }
 
 /// Two creations under one name.
-fn creates_twice(alloc: Global, config: &mut Config) -> Result<bool, NoMemory> {
+fn creates_twice(alloc: Global, run: &mut Run) -> Result<bool, NoMemory> {
     let mut creations = List::new(alloc);
     for serial in 1..3 {
         creations.push(creation(alloc, serial)?)?;
@@ -215,39 +224,41 @@ fn creates_twice(alloc: Global, config: &mut Config) -> Result<bool, NoMemory> {
         List::new(alloc),
         creations,
     );
-    act(alloc, config, outcome)
+    act(alloc, run, outcome)
 }
 
 /// Whether one of the two is bound, and no more.
-fn is_bound_once(alloc: Global, config: &mut Config) -> Result<bool, NoMemory> {
+fn is_bound_once(alloc: Global, run: &mut Run) -> Result<bool, NoMemory> {
     let services = services(alloc)?;
-    let first = config.bind(alloc, services.as_slice(), &Name::Anon(0, 0), 1)?;
-    let second = config.bind(alloc, services.as_slice(), &Name::Anon(0, 0), 2)?;
+    let first = run.bind(alloc, services.as_slice(), &Name::Anon(0, 0), 1)?;
+    let second = run.bind(alloc, services.as_slice(), &Name::Anon(0, 0), 2)?;
     Ok(first && !second)
 }
 
 #[test]
 fn a_name_is_bound_once(rt: HostRuntime) -> Result<(), Fail> {
-    let mut config = started(rt.alloc())?;
-    assert!(rt; creates_twice(rt.alloc(), &mut config)?);
-    assert!(rt; is_bound_once(rt.alloc(), &mut config)?);
-    assert!(rt; config.refuse(rt.alloc(), &Name::Anon(0, 0), 2)?);
+    let mut run = started(rt.alloc())?;
+    assert!(rt; creates_twice(rt.alloc(), &mut run)?);
+    assert!(rt; is_bound_once(rt.alloc(), &mut run)?);
+    assert!(rt; run.refuse(rt.alloc(), &Name::Anon(0, 0), 2)?);
+    let config = run.config(rt.alloc())?;
     assert_eq!(rt; fault(&config), Some(FaultKind::NameTaken));
     assert_eq!(rt; config.actors().len(), 2);
     Ok(())
 }
 
-fn posts(alloc: Global, config: &mut Config, number: u64) -> Result<bool, NoMemory> {
+fn posts(alloc: Global, run: &mut Run, number: u64) -> Result<bool, NoMemory> {
     let to = universal(alloc)?;
-    config.post(alloc, true, number, &to, 0, 1, &[])
+    run.post(alloc, true, number, &to, 0, 1, &[])
 }
 
 #[test]
 fn posts_have_rising_numbers(rt: HostRuntime) -> Result<(), Fail> {
-    let mut config = started(rt.alloc())?;
-    assert!(rt; !posts(rt.alloc(), &mut config, 0)?);
-    assert!(rt; posts(rt.alloc(), &mut config, 1)?);
-    assert!(rt; !posts(rt.alloc(), &mut config, 1)?);
+    let mut run = started(rt.alloc())?;
+    assert!(rt; !posts(rt.alloc(), &mut run, 0)?);
+    assert!(rt; posts(rt.alloc(), &mut run, 1)?);
+    assert!(rt; !posts(rt.alloc(), &mut run, 1)?);
+    let config = run.config(rt.alloc())?;
     assert_eq!(rt; config.pending(), (2, 0, 0));
     Ok(())
 }

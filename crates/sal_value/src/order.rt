@@ -99,6 +99,18 @@ impl Name {
             _ => false,
         }
     }
+
+    /// Compares with a universal name.
+    #[tactic(auto, unfolding(crate::specs::Order::key))]
+    pub fn cmp_universal(&self, other: &Uan) -> Ordering
+        ensures { result ≡ slice_cmp nat_cmp (key self.now) (key (Name.Uan other.now)) }
+    {
+        match self {
+            Name::Uan(uan) => compare_uans(uan, other),
+            Name::Anon(..) => Ordering::Less,
+            Name::Outside(_) => Ordering::Less,
+        }
+    }
 }
 
 impl PartialEq for Name {
@@ -159,12 +171,11 @@ impl Ord for Name {
     fn cmp(&self, other: &Name) -> Ordering {
         match (self, other) {
             (Name::Anon(j, m), Name::Anon(k, n)) => j.cmp(k).then(m.cmp(n)),
-            (Name::Anon(..), _) => Ordering::Less,
+            (name, Name::Uan(uan)) => name.cmp_universal(uan),
+            (Name::Uan(_), _) => Ordering::Greater,
             (Name::Outside(m), Name::Outside(n)) => m.cmp(n),
             (Name::Outside(_), Name::Anon(..)) => Ordering::Greater,
-            (Name::Outside(_), Name::Uan(_)) => Ordering::Less,
-            (Name::Uan(left), Name::Uan(right)) => compare_uans(left, right),
-            (Name::Uan(_), _) => Ordering::Greater,
+            (Name::Anon(..), Name::Outside(_)) => Ordering::Less,
         }
     }
 }

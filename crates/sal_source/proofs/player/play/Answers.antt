@@ -9,16 +9,16 @@ use Rattle.sal_source.proofs.player.play.Goals as goal
 
 pub loop-i-init : goal.loop-i-init
 unfolding steps
-loop-i-init c = ap (λ d. Some d) (sym c.in_ok-config.ensures)
+loop-i-init c = ap (λ d. Some d) (sym c.in_ok-run.ensures)
 
 pub returns-then-not-branch : goal.returns-then-not-branch
 returns-then-not-branch c =
     let gone : play c.args.program.now c.args.setup.now (take (c.loop-i.i + 1) c.args.steps.now) ≡ None =
-    played_on (meaning_of c.args.program.now) c.args.setup.now (first (meaning_of c.args.program.now) c.args.setup.now) c.loop-i.config c.args.steps.now c.loop-i.i c.index-steps-i.result None
+    played_on (meaning_of c.args.program.now) c.args.setup.now (first (meaning_of c.args.program.now) c.args.setup.now) c.loop-i.run c.args.steps.now c.loop-i.i c.index-steps-i.result None
     (slice_get_is c.args.steps.now c.loop-i.i c.index-steps-i.result c.loop-i-test.true c.index-steps-i.is) c.loop-i.invariant
-    (took_no (step (meaning_of c.args.program.now) c.args.setup.now c.loop-i.config c.index-steps-i.result) c.in_ok-step.field-0 c.loop-i.config c.step.new.config c.in_ok-step.ensures (search rules)) in
+    (took_no (step (meaning_of c.args.program.now) c.args.setup.now c.loop-i.run c.index-steps-i.result) c.in_ok-step.field-0 c.loop-i.run c.step.new.run c.in_ok-step.ensures (search rules)) in
     record {
-      before = c.loop-i.config;
+      before = c.loop-i.run;
       within = c.loop-i-test.true;
       good = c.loop-i.invariant;
       bad = rw (← add-one) gone;
@@ -27,6 +27,6 @@ returns-then-not-branch c =
 
 pub loop-i-preserved : goal.loop-i-preserved
 loop-i-preserved c =
-    played_on (meaning_of c.args.program.now) c.args.setup.now (first (meaning_of c.args.program.now) c.args.setup.now) c.loop-i.config c.args.steps.now c.loop-i.i c.index-steps-i.result (Some c.step.new.config)
+    played_on (meaning_of c.args.program.now) c.args.setup.now (first (meaning_of c.args.program.now) c.args.setup.now) c.loop-i.run c.args.steps.now c.loop-i.i c.index-steps-i.result (Some c.step.new.run)
     (slice_get_is c.args.steps.now c.loop-i.i c.index-steps-i.result c.loop-i-test.true c.index-steps-i.is) c.loop-i.invariant
-    (took_yes (step (meaning_of c.args.program.now) c.args.setup.now c.loop-i.config c.index-steps-i.result) c.in_ok-step.field-0 c.loop-i.config c.step.new.config c.in_ok-step.ensures (search rules))
+    (took_yes (step (meaning_of c.args.program.now) c.args.setup.now c.loop-i.run c.index-steps-i.result) c.in_ok-step.field-0 c.loop-i.run c.step.new.run c.in_ok-step.ensures (search rules))

@@ -3,4 +3,4 @@ use Rattle.sal_source.specs.Run.{play}
 use Rattle.sal_source.proofs.player.play.Given as goal
 
 abbrev pub invariant-loop-i : goal.invariant-loop-i
-invariant-loop-i l = play l.program l.setup (take l.i l.steps) ≡ Some l.config
+invariant-loop-i l = play l.program l.setup (take l.i l.steps) ≡ Some l.run

@@ -1,3 +1,4 @@
+-- proofs/actors/Actors/items/Answers.antt
 use Rattle.std.proofs.Common.{sym, ap, ◌∙◌}
 use Rattle.std.specs.FinMap as fm
 use Rattle.sal_mail.specs.declared.effects.Actor.{Actor}

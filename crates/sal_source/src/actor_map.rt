@@ -1,0 +1,193 @@
+//! The actors of a run, found by their names.
+
+ghost use Rattle.std.specs.Prelude.{◌≡◌, ◌↔◌, IsTrue, true, Some, None, IfSome, IfOk, OnOk, OnErr, map};
+ghost use Rattle.std.specs.Option.{option_map};
+ghost use Rattle.std.specs.FinMap as fm;
+ghost use Rattle.sal_source.specs.Table.{write};
+ghost use Rattle.sal_source.specs.Keys.{name_key, actor_key};
+ghost use Rattle.sal_source.specs.Listed.{IsSorted};
+ghost use Rattle.sal_source.specs.Mapped.{actor_of, actors_in, put_back};
+ghost use Rattle.sal_source.specs.Step.{put_actors};
+
+use crate::actors::Actors;
+use sal_mail::Actor;
+use sal_value::{List, Name, NoMemory, Values, keys_tell_names};
+use std::alloc::Global;
+use std::collections::BTreeMap;
+use std::marker::Model;
+
+/// What an actor is but for its name, with its next number.
+#[derive(Drop)]
+pub struct ActorState {
+    pub behavior: u16,
+    pub fields: Values,
+    pub next: u64,
+}
+
+/// The actor of this name and state, with its next number.
+fn held(name: Name, state: ActorState) -> (Actor, u64)
+    ensures { result ≡ actor_of (name, state) }
+{
+    let ActorState {
+        behavior,
+        fields,
+        next,
+    } = state;
+    let actor = Actor {
+        name,
+        behavior,
+        fields,
+    };
+    (actor, next)
+}
+
+/// The name and the state of the actor.
+fn parts(actor: Actor, next: u64) -> (Name, ActorState)
+    ensures { actor_of result ≡ (actor, next) }
+{
+    let Actor {
+        name,
+        behavior,
+        fields,
+    } = actor;
+    let state = ActorState {
+        behavior,
+        fields,
+        next,
+    };
+    (name, state)
+}
+
+type States = BTreeMap<Name, ActorState>;
+
+/// Puts the state at the name, and answers the one that was there. Only a new name takes memory.
+fn put(states: &mut States, name: Name, state: ActorState) -> Result<Option<ActorState>, NoMemory>
+    ensures old { IfOk result (λ old. put_back name old (actors_in states.new.entries) ≡ actors_in states.old.entries) }
+    ensures there { IfOk result (λ old. fm.contains_key (actors_in states.new.entries) (name_key name) ≡ true) }
+    ensures ok { OnOk result (actors_in states.new.entries ≡ write (actors_in states.old.entries) (name_key name) (Some (actor_of (name, state)))) }
+    ensures err { OnErr result (actors_in states.new.entries ≡ actors_in states.old.entries) }
+    ensures absent { OnErr result (fm.get (actors_in states.old.entries) (name_key name) ≡ None) }
+{
+    keys_tell_names();
+    match states.insert(name, state) {
+        Ok(old) => Ok(old),
+        Err(_) => Err(NoMemory),
+    }
+}
+
+/// Takes the name's state away, or puts this one back.
+fn restore(states: &mut States, name: Name, old: Option<ActorState>)
+    requires { fm.contains_key (actors_in states.old.entries) (name_key name) ≡ true }
+    ensures { actors_in states.new.entries ≡ put_back name old (actors_in states.old.entries) }
+{
+    match old {
+        Some(state) => {
+            let _ = put(states, name, state);
+        }
+        None => {
+            states.remove(&name);
+        }
+    }
+}
+
+/// Adds the actors, from the last one on, each with next number 0. Without memory none is added.
+fn add_all(states: &mut States, alloc: Global, more: List<Actor>) -> Result<(), NoMemory>
+    ensures ok { OnOk result (actors_in states.new.entries ≡ put_actors more (actors_in states.old.entries)) }
+    ensures err { OnErr result (actors_in states.new.entries ≡ actors_in states.old.entries) }
+{
+    let mut left = more;
+    let Some(actor) = left.pop() else {
+        return Ok(());
+    };
+    let (name, state) = parts(actor, 0);
+    let again = name.clone_in(alloc)?;
+    let old = put(states, name, state)?;
+    match add_all(states, alloc, left) {
+        Ok(()) => Ok(()),
+        Err(e) => {
+            restore(states, again, old);
+            Err(e)
+        }
+    }
+}
+
+/// The actors in a list in the order of their names.
+fn listed(states: States, alloc: Global) -> Result<List<(Actor, u64)>, NoMemory>
+    ensures items { IfOk result (λ items. items ≡ map actor_of states.entries) }
+    ensures sorted { IfOk result (λ items. IsSorted actor_key items) }
+{
+    let mut items = List::new(alloc);
+    for (name, state) in states {
+        items.push(held(name, state))?;
+    }
+    Ok(items)
+}
+
+/// The actors of a run with their next numbers.
+#[derive(Drop)]
+pub struct ActorMap {
+    states: States,
+}
+
+impl Model for ActorMap {
+    ghost use Rattle.std.specs.Prelude.{ℕ};
+    ghost use Rattle.sal_mail.specs.declared.effects.Actor as spec;
+    ghost use Rattle.sal_source.specs.Table.{Table};
+    ghost use Rattle.sal_source.specs.Configuration.{actors_code};
+    ghost use Rattle.sal_source.specs.Mapped.{actors_in};
+
+    ghost Value = { Table (spec.Actor × ℕ) };
+
+    ghost coded = { actors_code };
+
+    ghost view = { λ a. actors_in a.states.entries };
+}
+
+impl ActorMap {
+    pub fn new(alloc: Global) -> ActorMap
+        ensures { result ≡ fm.empty }
+    {
+        ActorMap {
+            states: BTreeMap::new(alloc),
+        }
+    }
+
+    pub fn get(&self, name: &Name) -> Option<(&Name, &ActorState)>
+        ensures value { option_map (λ e. actor_of (e.0.now, e.1.now)) result ≡ fm.get self.now (name_key name.now) }
+        ensures keyed { IfSome result (λ e. name_key name.now ≡ name_key e.0.now) }
+    {
+        self.states.get_key_value(name)
+    }
+
+    pub fn contains(&self, name: &Name) -> bool
+        ensures { result ≡ fm.contains_key self.now (name_key name.now) }
+    {
+        self.get(name).is_some()
+    }
+
+    /// Adds the actors, each with next number 0. Without memory none is added.
+    pub fn add_all(&mut self, alloc: Global, more: List<Actor>) -> Result<(), NoMemory>
+        ensures ok { OnOk result (self.new ≡ put_actors more self.old) }
+        ensures err { OnErr result (self.new ≡ self.old) }
+    {
+        add_all(&mut self.states, alloc, more)
+    }
+
+    /// Puts the actor in the place of the one of its name.
+    pub fn set(&mut self, actor: (Actor, u64))
+        requires { fm.contains_key self.old (actor_key actor) ≡ true }
+        ensures { self.new ≡ write self.old (actor_key actor) (Some actor) }
+    {
+        let (actor, next) = actor;
+        let (name, state) = parts(actor, next);
+        let _ = put(&mut self.states, name, state);
+    }
+
+    /// The actors in a list in the order of their names.
+    pub fn listed(self, alloc: Global) -> Result<Actors, NoMemory>
+        ensures { IfOk result (λ actors. actors ≡ self) }
+    {
+        let items = listed(self.states, alloc)?;
+        Ok(Actors::of_sorted(items))
+    }
+}

@@ -1,0 +1,650 @@
+//! Runs, step by step.
+
+ghost use Rattle.std.specs.Prelude.{◌≡◌, ◌↔◌, IsTrue, [], true, IfOk, IfSome, OnOk, OnErr};
+ghost use Rattle.std.specs.Option.{option_copied};
+ghost use Rattle.std.specs.FinMap as fm;
+ghost use Rattle.sal_source.specs.Table.{keys_of, write};
+ghost use Rattle.sal_source.specs.Keys.{name_key, actor_key};
+ghost use Rattle.sal_source.specs.Configuration.{first_of, act_message};
+ghost use Rattle.sal_source.specs.Give.{give};
+ghost use Rattle.sal_source.specs.Step as spec;
+ghost use Rattle.sal_source.specs.Changes.{Takes};
+ghost use Rattle.sal_handler.specs.declared.turn.Began.TheVariants as began;
+ghost use Rattle.sal_handler.specs.declared.turn.Outcome.TheVariants.{Done};
+ghost use Rattle.sal_source.specs.Mapped.{actor_of};
+ghost use Rattle.sal_source.specs.Meeting.{Meets, IsChange, Makes, After, Enters, committed, told, printed, bound, is_output};
+
+use crate::actor_map::{ActorMap, ActorState};
+use crate::config::Config;
+use crate::creations::Creations;
+use crate::fresh::are_fresh;
+use crate::posts::{fits_post, post_message};
+use crate::services::is_served;
+use crate::state::Setup;
+use crate::waiting::Waiting;
+use crate::{copies, messages, printing};
+use sal_handler::{Began, Outcome};
+use sal_mail::{
+    Actor, Answer, Creation, Effects, Fault, FaultKind, Join, Message, Piece, Reply, Target, Trap,
+};
+use sal_value::{Authority, List, Name, NoMemory, Text, Uan, Value, Values};
+use std::alloc::Global;
+use std::marker::Model;
+
+/// A run so far: the configuration to which its steps have come.
+#[derive(Drop)]
+pub struct Run {
+    actors: ActorMap,
+    creations: Creations,
+    waiting: Waiting,
+    output: List<Text>,
+    faults: List<Fault>,
+    answers: List<(u64, Value)>,
+    posted: u64,
+}
+
+impl Model for Run {
+    ghost use Rattle.sal_source.specs.Table.{keys_of};
+    ghost use Rattle.sal_source.specs.Configuration.{Configuration, configuration_code};
+
+    ghost Value = { Configuration };
+
+    ghost coded = { configuration_code };
+
+    ghost view = { λ c. record {
+      actors = c.actors;
+      given = keys_of c.actors;
+      creations = c.creations;
+      waiting = c.waiting;
+      output = c.output;
+      faults = c.faults;
+      answers = c.answers;
+      posted = c.posted;
+    } };
+}
+
+/// What a message meets that is to be handled.
+#[derive(Clone, Copy)]
+pub enum Met<'a> {
+    /// The message isn't pending or not ready, or there is no actor for it.
+    Nobody,
+    /// The actor doesn't understand it.
+    NoHandler,
+    /// The message, and the name and the state of the actor that handles it.
+    Handler(&'a Message, &'a Name, &'a ActorState),
+}
+
+/// What the handler of an actor makes of a configuration.
+#[derive(Drop)]
+pub struct Change {
+    actor: (Actor, u64),
+    actors: List<Actor>,
+    creations: Creations,
+    waiting: Waiting,
+    answers: List<(u64, Value)>,
+}
+
+fn act_message(
+    alloc: Global,
+    words: Values,
+    behavior: u16,
+    handler: u16,
+) -> Result<Message, NoMemory>
+    ensures { IfOk result (λ m. m ≡ act_message words behavior handler) }
+{
+    let mut args = List::new(alloc);
+    args.push(Piece::Known(Value::Array(words)))?;
+    Ok(Message {
+        maker: Name::Outside(0),
+        serial: 0,
+        target: Target::Actor(Name::Anon(0, 0)),
+        behavior,
+        handler,
+        args,
+        after: List::new(alloc),
+        delay: 0,
+        reply: Reply::Nobody,
+    })
+}
+
+/// The actor with other fields and another next number.
+fn changed(
+    alloc: Global,
+    name: &Name,
+    state: &ActorState,
+    fields: Values,
+    next: u64,
+) -> Result<(Actor, u64), NoMemory>
+    ensures { IfOk result (λ it. it ≡ (record (actor_of (name.now, state.now)).0 { fields = fields }, next)) }
+{
+    let name = name.clone_in(alloc)?;
+    let behavior = state.behavior;
+    Ok((
+        Actor {
+            name,
+            behavior,
+            fields,
+        },
+        next,
+    ))
+}
+
+fn is_migrate(message: &Message) -> bool
+    ensures { result ≡ spec.is_migrate message.now }
+{
+    message.behavior == u16::MAX && message.handler == u16::MAX
+}
+
+fn understands(name: &Name, state: &ActorState, message: &Message) -> bool
+    ensures { result ≡ spec.understands (actor_of (name.now, state.now)).0 message.now }
+{
+    message.behavior == state.behavior || is_migrate(message)
+}
+
+fn answered(alloc: Global, answer: Answer, reply: Reply) -> Result<List<(Reply, Value)>, NoMemory>
+    ensures { IfOk result (λ gives. gives ≡ spec.answered answer reply) }
+{
+    let mut gives = List::new(alloc);
+    if let Answer::Value(value) = answer {
+        gives.push((reply, value))?;
+    }
+    Ok(gives)
+}
+
+/// The messages and joins of a handler wait, and its replies are given. The answers that they tell.
+fn enter(
+    alloc: Global,
+    waiting: &mut Waiting,
+    owner: &Name,
+    messages: List<Message>,
+    joins: List<Join>,
+    answer: Answer,
+    reply: Reply,
+) -> Result<List<(u64, Value)>, NoMemory>
+    ensures { IfOk result (λ answers. Enters owner.now messages joins answer reply waiting.old waiting.new answers) }
+{
+    let mut left = answered(alloc, answer, reply)?;
+    waiting.open_all(alloc, owner, joins, &mut left)?;
+    waiting.put_messages(messages)?;
+    let mut answers = List::new(alloc);
+    waiting.settle(alloc, &mut answers, left)?;
+    Ok(answers)
+}
+
+fn target_and_reply(message: Message) -> (Target, Reply)
+    ensures { result ≡ (message.target, message.reply) }
+{
+    let Message { target, reply, .. } = message;
+    (target, reply)
+}
+
+/// What the handler of this actor makes of the creations and of what waits.
+fn changed_by(
+    alloc: Global,
+    me: &Name,
+    state: &ActorState,
+    reply: Reply,
+    creations: &Creations,
+    waiting: Waiting,
+    effects: Effects,
+) -> Result<Change, NoMemory>
+    ensures { IfOk result (λ change. IsChange effects reply (actor_of (me.now, state.now)) creations.now waiting change) }
+{
+    let mut waiting = waiting;
+    let answers = enter(
+        alloc,
+        &mut waiting,
+        me,
+        effects.messages,
+        effects.joins,
+        effects.answer,
+        reply,
+    )?;
+    let mut creations = creations.copied(alloc)?;
+    creations.put_all(alloc, me, effects.creations)?;
+    Ok(Change {
+        actor: changed(alloc, me, state, effects.fields, effects.serial)?,
+        actors: effects.actors,
+        creations,
+        waiting,
+        answers,
+    })
+}
+
+fn is_output(target: &Target) -> bool
+    ensures { result ≡ is_output target.now }
+{
+    match target {
+        Target::Output => true,
+        Target::Actor(_) => false,
+    }
+}
+
+fn bound_actor(alloc: Global, creation: &Creation) -> Result<Actor, NoMemory>
+    ensures { IfOk result (λ a. a ≡ spec.bound_actor creation.now) }
+{
+    Ok(Actor {
+        name: Name::Uan(creation.name.clone_in(alloc)?),
+        behavior: creation.behavior,
+        fields: copies::values(alloc, creation.fields.as_slice())?,
+    })
+}
+
+fn started(
+    alloc: Global,
+    words: Values,
+    behavior: u16,
+    handler: u16,
+    fields: Values,
+) -> Result<Run, NoMemory>
+    ensures { IfOk result (λ c. c ≡ first_of words (began.Actor behavior handler fields)) }
+{
+    let message = act_message(alloc, words, behavior, handler)?;
+    let name = Name::Anon(0, 0);
+    let mut more = List::new(alloc);
+    more.push(Actor {
+        name,
+        behavior,
+        fields,
+    })?;
+    let mut actors = ActorMap::new(alloc);
+    actors.add_all(alloc, more)?;
+    let mut waiting = Waiting::new(alloc);
+    waiting.put_message(message)?;
+    Ok(Run {
+        actors,
+        creations: Creations::new(alloc),
+        waiting,
+        output: List::new(alloc),
+        faults: List::new(alloc),
+        answers: List::new(alloc),
+        posted: 0,
+    })
+}
+
+fn failed(alloc: Global, kind: Trap) -> Result<Run, NoMemory>
+    ensures { IfOk result (λ c. c ≡ first_of [] (began.Trap kind)) }
+{
+    let maker = Name::Outside(0);
+    let mut faults = List::new(alloc);
+    faults.push(Fault {
+        maker,
+        serial: 0,
+        kind: FaultKind::Trap(kind),
+    })?;
+    Ok(Run {
+        actors: ActorMap::new(alloc),
+        creations: Creations::new(alloc),
+        waiting: Waiting::new(alloc),
+        output: List::new(alloc),
+        faults,
+        answers: List::new(alloc),
+        posted: 0,
+    })
+}
+
+impl Run {
+    /// The run of no step of a program that begins so, with these words.
+    pub fn start(alloc: Global, began: Began, words: Values) -> Result<Run, NoMemory>
+        ensures { IfOk result (λ c. c ≡ first_of words began) }
+    {
+        match began {
+            Began::Actor {
+                behavior,
+                handler,
+                fields,
+            } => started(alloc, words, behavior, handler, fields),
+            Began::Trap(kind) => failed(alloc, kind),
+        }
+    }
+
+    /// The configuration to which the run has come.
+    pub fn config(self, alloc: Global) -> Result<Config, NoMemory>
+        ensures { IfOk result (λ c. c ≡ self) }
+    {
+        let Run {
+            actors,
+            creations,
+            waiting,
+            output,
+            faults,
+            answers,
+            posted,
+        } = self;
+        Ok(Config {
+            actors: actors.listed(alloc)?,
+            creations,
+            waiting,
+            output,
+            faults,
+            answers,
+            posted,
+        })
+    }
+
+    /// What the pending message with this maker and number meets.
+    pub fn meets(&self, maker: &Name, serial: u64) -> Met<'_>
+        ensures { Meets maker.now serial self.now result }
+    {
+        let Some(message) = self.waiting.message(maker, serial) else {
+            return Met::Nobody;
+        };
+        if !messages::is_ready(message) {
+            return Met::Nobody;
+        }
+        let Target::Actor(name) = &message.target else {
+            return Met::Nobody;
+        };
+        let Some((name, state)) = self.actors.get(name) else {
+            return Met::Nobody;
+        };
+        if understands(name, state, message) {
+            Met::Handler(message, name, state)
+        } else {
+            Met::NoHandler
+        }
+    }
+
+    fn fail(
+        &mut self,
+        alloc: Global,
+        maker: &Name,
+        serial: u64,
+        fresh: &[Name],
+        kind: FaultKind,
+    ) -> Result<bool, NoMemory>
+        ensures { Takes (spec.unnamed fresh.now (spec.add_fault kind maker.now serial (spec.drop_message maker.now serial self.old))) self.old result self.new }
+    {
+        match fresh {
+            [_, ..] => Ok(false),
+            [] => {
+                let maker_again = maker.clone_in(alloc)?;
+                self.faults.push(Fault {
+                    maker: maker_again,
+                    serial,
+                    kind,
+                })?;
+                self.waiting.take(maker, serial);
+                Ok(true)
+            }
+        }
+    }
+
+    /// The step of a message that its actor doesn't understand.
+    pub fn no_handler(
+        &mut self,
+        alloc: Global,
+        maker: &Name,
+        serial: u64,
+        fresh: &[Name],
+    ) -> Result<bool, NoMemory>
+        ensures { Takes (spec.unhandled maker.now serial fresh.now self.old) self.old result self.new }
+    {
+        self.fail(alloc, maker, serial, fresh, FaultKind::NoHandler)
+    }
+
+    fn change(
+        &self,
+        alloc: Global,
+        maker: &Name,
+        serial: u64,
+        effects: Effects,
+    ) -> Result<Option<Change>, NoMemory>
+        ensures makes { IfOk result (λ it. Makes maker.now serial effects self.now it) }
+        ensures there { IfOk result (λ it. IfSome it (λ change. fm.contains_key self.now.actors (actor_key change.actor) ≡ true)) }
+    {
+        let mut waiting = self.waiting.copied(alloc)?;
+        let Some(message) = waiting.take(maker, serial) else {
+            return Ok(None);
+        };
+        let (target, reply) = target_and_reply(message);
+        let Target::Actor(name) = target else {
+            return Ok(None);
+        };
+        let Some((me, state)) = self.actors.get(&name) else {
+            return Ok(None);
+        };
+        let change = changed_by(alloc, me, state, reply, &self.creations, waiting, effects)?;
+        Ok(Some(change))
+    }
+
+    fn commit(&mut self, alloc: Global, change: Change) -> Result<(), NoMemory>
+        requires { fm.contains_key self.old.actors (actor_key change.actor) ≡ true }
+        ensures ok { OnOk result (self.new ≡ committed change self.old) }
+        ensures err { OnErr result (self.new ≡ self.old) }
+    {
+        let Change {
+            actor,
+            actors,
+            creations,
+            waiting,
+            answers,
+        } = change;
+        let told = self.answers.len();
+        self.answers.append(answers)?;
+        if let Err(e) = self.actors.add_all(alloc, actors) {
+            self.answers.truncate(told);
+            return Err(e);
+        }
+        self.actors.set(actor);
+        self.creations = creations;
+        self.waiting = waiting;
+        Ok(())
+    }
+
+    fn fits(&self, fresh: &[Name], effects: &Effects) -> bool
+        ensures { result ≡ spec.fits_fresh fresh.now effects.now self.now }
+    {
+        fresh.len() == effects.actors.len() && are_fresh(fresh, &self.actors)
+    }
+
+    fn done(
+        &mut self,
+        alloc: Global,
+        maker: &Name,
+        serial: u64,
+        fresh: &[Name],
+        effects: Effects,
+    ) -> Result<bool, NoMemory>
+        ensures { After maker.now serial fresh.now (Done effects) self.old result self.new }
+    {
+        if !self.fits(fresh, &effects) {
+            return Ok(false);
+        }
+        match self.change(alloc, maker, serial, effects)? {
+            Some(change) => {
+                self.commit(alloc, change)?;
+                Ok(true)
+            }
+            None => Ok(false),
+        }
+    }
+
+    fn after(
+        &mut self,
+        alloc: Global,
+        maker: &Name,
+        serial: u64,
+        fresh: &[Name],
+        outcome: Outcome,
+    ) -> Result<bool, NoMemory>
+        ensures { After maker.now serial fresh.now outcome self.old result self.new }
+    {
+        match outcome {
+            Outcome::Done(effects) => self.done(alloc, maker, serial, fresh, effects),
+            Outcome::Trap(kind) => self.fail(alloc, maker, serial, fresh, FaultKind::Trap(kind)),
+        }
+    }
+
+    /// The step of a message whose handler has this outcome, with these names for new actors. False
+    /// where the step isn't possible.
+    pub fn handled(
+        &mut self,
+        alloc: Global,
+        maker: &Name,
+        serial: u64,
+        fresh: &[Name],
+        outcome: Outcome,
+    ) -> Result<bool, NoMemory>
+        ensures { Takes (spec.handle_step (λ _. outcome) maker.now serial fresh.now self.old) self.old result self.new }
+    {
+        match self.meets(maker, serial) {
+            Met::Nobody => Ok(false),
+            Met::NoHandler => self.no_handler(alloc, maker, serial, fresh),
+            Met::Handler(..) => self.after(alloc, maker, serial, fresh, outcome),
+        }
+    }
+
+    fn tell(
+        &mut self,
+        text: Text,
+        waiting: Waiting,
+        answers: List<(u64, Value)>,
+    ) -> Result<(), NoMemory>
+        ensures ok { OnOk result (self.new ≡ told text waiting answers self.old) }
+        ensures err { OnErr result (self.new ≡ self.old) }
+    {
+        let told = self.output.len();
+        self.output.push(text)?;
+        if let Err(e) = self.answers.append(answers) {
+            self.output.truncate(told);
+            return Err(e);
+        }
+        self.waiting = waiting;
+        Ok(())
+    }
+
+    fn print_out(
+        &mut self,
+        alloc: Global,
+        waiting: Waiting,
+        message: Message,
+    ) -> Result<(), NoMemory>
+        ensures ok { OnOk result (self.new ≡ printed message waiting self.old) }
+        ensures err { OnErr result (self.new ≡ self.old) }
+    {
+        let text = printing::printed(alloc, &message)?;
+        let (_, reply) = target_and_reply(message);
+        let mut left = List::new(alloc);
+        left.push((reply, Value::Null))?;
+        let mut waiting = waiting;
+        let mut answers = List::new(alloc);
+        waiting.settle(alloc, &mut answers, left)?;
+        self.tell(text, waiting, answers)
+    }
+
+    /// A reply is given to whom it is owed, and then what it fills or completes.
+    pub fn give(&mut self, alloc: Global, reply: Reply, value: Value) -> Result<(), NoMemory>
+        ensures ok { OnOk result (self.new ≡ give reply value self.old) }
+        ensures err { OnErr result (self.new ≡ self.old) }
+    {
+        let mut waiting = self.waiting.copied(alloc)?;
+        let mut left = List::new(alloc);
+        left.push((reply, value))?;
+        let mut answers = List::new(alloc);
+        waiting.settle(alloc, &mut answers, left)?;
+        self.answers.append(answers)?;
+        self.waiting = waiting;
+        Ok(())
+    }
+
+    /// The step of a message to the output. False where the step isn't possible.
+    pub fn print(&mut self, alloc: Global, maker: &Name, serial: u64) -> Result<bool, NoMemory>
+        ensures { Takes (spec.print_step maker.now serial self.old) self.old result self.new }
+    {
+        let mut waiting = self.waiting.copied(alloc)?;
+        let Some(message) = waiting.take(maker, serial) else {
+            return Ok(false);
+        };
+        if !messages::is_ready(&message) || !is_output(&message.target) {
+            return Ok(false);
+        }
+        self.print_out(alloc, waiting, message)?;
+        Ok(true)
+    }
+
+    fn install(
+        &mut self,
+        alloc: Global,
+        actor: Actor,
+        maker: &Name,
+        serial: u64,
+    ) -> Result<(), NoMemory>
+        ensures ok { OnOk result (self.new ≡ bound actor maker.now serial self.old) }
+        ensures err { OnErr result (self.new ≡ self.old) }
+    {
+        let mut actors = List::new(alloc);
+        actors.push(actor)?;
+        self.actors.add_all(alloc, actors)?;
+        self.creations.take(maker, serial);
+        Ok(())
+    }
+
+    /// The step of a creation that comes to its name, where these naming services are there. False
+    /// where the step isn't possible.
+    pub fn bind(
+        &mut self,
+        alloc: Global,
+        authorities: &[Authority],
+        maker: &Name,
+        serial: u64,
+    ) -> Result<bool, NoMemory>
+        ensures { Takes (spec.bind_step authorities.now maker.now serial self.old) self.old result self.new }
+    {
+        let Some(creation) = self.creations.get(maker, serial) else {
+            return Ok(false);
+        };
+        if !is_served(authorities, &creation.1.name) {
+            return Ok(false);
+        }
+        let actor = bound_actor(alloc, &creation.1)?;
+        if self.actors.contains(&actor.name) {
+            return Ok(false);
+        }
+        self.install(alloc, actor, maker, serial)?;
+        Ok(true)
+    }
+
+    /// The step of a creation whose name was given. False where the step isn't possible.
+    pub fn refuse(&mut self, alloc: Global, maker: &Name, serial: u64) -> Result<bool, NoMemory>
+        ensures { Takes (spec.refuse_step maker.now serial self.old) self.old result self.new }
+    {
+        let Some(creation) = self.creations.get(maker, serial) else {
+            return Ok(false);
+        };
+        let name = Name::Uan(creation.1.name.clone_in(alloc)?);
+        if !self.actors.contains(&name) {
+            return Ok(false);
+        }
+        let maker_again = maker.clone_in(alloc)?;
+        self.faults.push(Fault {
+            maker: maker_again,
+            serial,
+            kind: FaultKind::NameTaken,
+        })?;
+        self.creations.take(maker, serial);
+        Ok(true)
+    }
+
+    /// A call from outside, where it fits the program. False where the step isn't possible.
+    pub fn post(
+        &mut self,
+        alloc: Global,
+        fits: bool,
+        number: u64,
+        to: &Uan,
+        behavior: u16,
+        handler: u16,
+        args: &[Value],
+    ) -> Result<bool, NoMemory>
+        ensures { Takes (spec.post_step fits number to.now behavior handler args.now self.old) self.old result self.new }
+    {
+        if !fits || !fits_post(self.posted, number, to, behavior, args) {
+            return Ok(false);
+        }
+        let message = post_message(alloc, number, to, behavior, handler, args)?;
+        self.waiting.put_message(message)?;
+        self.posted = number;
+        Ok(true)
+    }
+}
