@@ -46,7 +46,7 @@ apart_less a b e = elim (words_tells b a) [
   | inr s ↦ s.0
 ]
 
-apart_more : (a b : Words) → words_cmp a b ≡ Less → words_eq a b ≡ false
+pub apart_more : (a b : Words) → words_cmp a b ≡ Less → words_eq a b ≡ false
 apart_more a b e = elim (words_tells a b) [
   | inl s ↦ absurd (let f : Equal ≡ Less = sym (tied_itself nat_list_cmp_total b) ∙ ap (λ x. words_cmp x b) (sym s.1) ∙ e in cc)
   | inr s ↦ s.0

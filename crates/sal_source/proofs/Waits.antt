@@ -16,6 +16,8 @@ use Rattle.sal_source.specs.Give.{Given, resolve, array_of, give_one, released, 
 use Rattle.sal_source.specs.Step.{put_message, put_messages, put_join, put_joins, put_creation, put_creations, arrays}
 use Rattle.sal_source.specs.Changes.{GivesNext, Opens}
 use Rattle.sal_mail.specs.Message.{told}
+use Rattle.sal_value.specs.Order.{KeysTellNames}
+use Rattle.sal_source.specs.Mapped.{join_words}
 use Rattle.sal_source.specs.Table.{words_eq}
 use Rattle.sal_source.proofs.Commute.{write_again, one_falls}
 use Rattle.sal_source.proofs.Fuel.{give_first, tell_first}
@@ -101,3 +103,13 @@ resolve_keeps owner number value m = either (words_eq (name_key owner) (name_key
     either : (b : Bool) → message_key (cond b (told number value m) m) ≡ message_key m
     either true = refl
     either false = refl
+
+-- a join's number and owner are told by the words of its key
+pub words_tell : KeysTellNames → (a b : ℕ × Name) → join_words a ≡ join_words b → a ≡ b
+words_tell tell a b e = λ i. (head_is e i, tell a.1 b.1 (tail_is e) i)
+  where
+    head_is : {x y : ℕ} {xs ys : List ℕ} → x ∷ xs ≡ y ∷ ys → x ≡ y
+    head_is f = cc
+
+    tail_is : {x y : ℕ} {xs ys : List ℕ} → x ∷ xs ≡ y ∷ ys → xs ≡ ys
+    tail_is f = cc

@@ -55,12 +55,16 @@ pub record Configuration : Type 0 where
 abbrev pub words_code : Coded Words
 words_code = coded_list coded_ℕ
 
+-- the code of the open joins with their owners
+abbrev pub joins_code : Coded (Table (Name × Join))
+joins_code = fm.code words_code (coded× name_row.coded join_row.coded)
+
 -- the code of what waits
 abbrev pub waiting_code : Coded Waiting
 waiting_code =
     code_by
     (Table Message × Table (Name × Join))
-    (coded× (fm.code words_code message_row.coded) (fm.code words_code (coded× name_row.coded join_row.coded)))
+    (coded× (fm.code words_code message_row.coded) joins_code)
     (λ w. (w.messages, w.joins))
     (λ p. record { messages = p.0; joins = p.1 })
     (λ _. refl)

@@ -1,11 +1,13 @@
--- How a map from names stands for the table of actors: what the code that keeps a run finds in its map.
+-- How the ordered maps of a run stand for its tables of actors and of open joins.
 use Rattle.std.specs.Prelude.{ℕ, List, map, Option, Some, None}
 use Rattle.sal_value.specs.declared.name.Name.{Name}
 use Rattle.sal_value.specs.declared.name.Name.TheVariants as name
 use Rattle.sal_mail.specs.declared.effects.Actor.{Actor}
+use Rattle.sal_mail.specs.declared.message.Join.{Join}
 use Rattle.sal_source.specs.Table.{Words, Table, table_of, write}
-use Rattle.sal_source.specs.Keys.{name_key, actor_key}
+use Rattle.sal_source.specs.Keys.{name_key, actor_key, made_key, join_key}
 use Rattle.sal_source.specs.declared.actor_map.ActorState.{ActorState}
+use Rattle.sal_source.specs.declared.open_joins.OpenJoin.{OpenJoin}
 use Rattle.sal_source.specs.declared.actors.Sought.{Sought}
 use Rattle.sal_source.specs.declared.actors.Sought.TheVariants as sought
 
@@ -26,3 +28,15 @@ put_back name (Some state) t = write t (name_key name) (Some (actor_of (name, st
 abbrev pub sought_key : Sought → Words
 sought_key (sought.Any name) = name_key name.now
 sought_key (sought.Universal u) = name_key (name.Uan u.now)
+
+-- the join of an entry, with its owner
+abbrev pub join_of : (ℕ × Name) × OpenJoin → Name × Join
+join_of e = (e.0.1, record { number = e.0.0; places = e.1.places; void = e.1.void; reply = e.1.reply })
+
+-- the key of a join's number and owner
+abbrev pub join_words : ℕ × Name → Words
+join_words k = made_key k.1 k.0
+
+-- the joins of these entries
+abbrev pub joins_in : List ((ℕ × Name) × OpenJoin) → Table (Name × Join)
+joins_in es = table_of join_key (map join_of es)

@@ -2,7 +2,7 @@
 
 ghost use Rattle.std.specs.Prelude.{◌≡◌, IfOk};
 
-use sal_mail::{Creation, Join, Message, Piece, Reply, Target};
+use sal_mail::{Creation, Message, Piece, Reply, Target};
 use sal_value::{List, Name, NoMemory, Ual, Value, Values};
 use std::alloc::Global;
 
@@ -90,39 +90,12 @@ fn place(alloc: Global, place: &Option<Value>) -> Result<Option<Value>, NoMemory
     }
 }
 
-fn places(alloc: Global, places: &[Option<Value>]) -> Result<List<Option<Value>>, NoMemory>
+pub fn places(alloc: Global, places: &[Option<Value>]) -> Result<List<Option<Value>>, NoMemory>
     ensures { IfOk result (λ it. it ≡ places.now) }
 {
     let mut copies = List::new(alloc);
     for one in places {
         copies.push(place(alloc, one)?)?;
-    }
-    Ok(copies)
-}
-
-fn join(alloc: Global, join: &Join) -> Result<Join, NoMemory>
-    ensures { IfOk result (λ it. it ≡ join.now) }
-{
-    Ok(Join {
-        number: join.number,
-        places: places(alloc, join.places.as_slice())?,
-        void: join.void,
-        reply: reply(alloc, &join.reply)?,
-    })
-}
-
-fn owned_join(alloc: Global, it: &(Name, Join)) -> Result<(Name, Join), NoMemory>
-    ensures { IfOk result (λ copy. copy ≡ it.now) }
-{
-    Ok((it.0.clone_in(alloc)?, join(alloc, &it.1)?))
-}
-
-pub fn joins(alloc: Global, joins: &[(Name, Join)]) -> Result<List<(Name, Join)>, NoMemory>
-    ensures { IfOk result (λ it. it ≡ joins.now) }
-{
-    let mut copies = List::new(alloc);
-    for one in joins {
-        copies.push(owned_join(alloc, one)?)?;
     }
     Ok(copies)
 }

@@ -11,6 +11,7 @@ mod joins;
 mod law;
 mod made;
 mod messages;
+mod open_joins;
 mod player;
 mod posts;
 mod printing;

@@ -8,7 +8,7 @@ ghost use Rattle.sal_source.specs.Table.{words_eq, write, table_of};
 ghost use Rattle.sal_source.specs.Keys.{name_key, made_key};
 ghost use Rattle.sal_source.specs.Listed.{key_by, Finds, AreDistinct};
 
-use sal_mail::{Creation, Join, Message};
+use sal_mail::{Creation, Message};
 use sal_value::{List, Name, NoMemory};
 
 pub fn same_name(a: &Name, b: &Name) -> bool
@@ -41,20 +41,6 @@ impl Made for Message {
 
     fn serial(&self) -> u64 {
         self.serial
-    }
-}
-
-impl Made for (Name, Join) {
-    ghost made_by = { λ j. j.0 };
-
-    ghost number = { λ j. j.1.number };
-
-    fn maker(&self) -> &Name {
-        &self.0
-    }
-
-    fn serial(&self) -> u64 {
-        self.1.number
     }
 }
 

@@ -15,6 +15,7 @@ ghost use Rattle.sal_source.specs.Step as step;
 ghost use Rattle.sal_source.specs.Changes.{listed, GivesOne, GivesNext, Settles, Opens, OpensAll};
 
 use crate::actors::Actors;
+use crate::open_joins::OpenJoins;
 use crate::{copies, joins, made, messages};
 use sal_mail::{Join, Message, Reply, Target};
 use sal_value::{List, Name, NoMemory, Value};
@@ -52,12 +53,12 @@ fn some_possible(messages: &[Message], actors: &Actors) -> bool
 #[derive(Drop)]
 pub struct Waiting {
     messages: List<Message>,
-    joins: List<(Name, Join)>,
+    joins: OpenJoins,
 }
 
 impl Model for Waiting {
     ghost use Rattle.sal_source.specs.Table.{table_of};
-    ghost use Rattle.sal_source.specs.Keys.{message_key, join_key};
+    ghost use Rattle.sal_source.specs.Keys.{message_key};
     ghost use Rattle.sal_source.specs.Listed.{AreDistinct};
     ghost use Rattle.sal_source.specs.Configuration as configuration;
 
@@ -65,9 +66,9 @@ impl Model for Waiting {
 
     ghost coded = { configuration.waiting_code };
 
-    ghost view = { λ w. record { messages = table_of message_key w.messages; joins = table_of join_key w.joins } };
+    ghost view = { λ w. record { messages = table_of message_key w.messages; joins = w.joins } };
 
-    ghost invariant = { λ w. AreDistinct message_key w.messages × AreDistinct join_key w.joins };
+    ghost invariant = { λ w. AreDistinct message_key w.messages };
 }
 
 impl Waiting {
@@ -76,7 +77,7 @@ impl Waiting {
     {
         Waiting {
             messages: List::new(alloc),
-            joins: List::new(alloc),
+            joins: OpenJoins::new(alloc),
         }
     }
 
@@ -84,7 +85,7 @@ impl Waiting {
         ensures { IfOk result (λ copy. copy ≡ self.now) }
     {
         let messages = copies::messages(alloc, self.messages.as_slice())?;
-        let joins = copies::joins(alloc, self.joins.as_slice())?;
+        let joins = self.joins.copied(alloc)?;
         Ok(Waiting { messages, joins })
     }
 
@@ -139,7 +140,7 @@ impl Waiting {
     fn put_join(&mut self, owner: Name, join: Join) -> Result<(), NoMemory>
         ensures { OnOk result (self.new ≡ record self.old { joins = step.put_join owner join self.old.joins }) }
     {
-        made::put(&mut self.joins, (owner, join))
+        self.joins.put(owner, join)
     }
 
     /// Opens the join, or lists its array where it is full.
@@ -194,15 +195,15 @@ impl Waiting {
     fn fill(
         &mut self,
         alloc: Global,
-        owner: &Name,
+        owner: Name,
         number: u64,
         at: u32,
         value: Value,
     ) -> Result<Option<(Reply, Value)>, NoMemory>
-        ensures waiting { OnOk result (self.new ≡ give.give_to (reply.Place owner.now number at) value self.old) }
-        ensures gives { IfOk result (λ more. listed more ≡ give.gives_on (reply.Place owner.now number at) value self.old) }
+        ensures waiting { OnOk result (self.new ≡ give.give_to (reply.Place owner number at) value self.old) }
+        ensures gives { IfOk result (λ more. listed more ≡ give.gives_on (reply.Place owner number at) value self.old) }
     {
-        let Some((owner, join)) = made::take(&mut self.joins, owner, number) else {
+        let Some((owner, join)) = self.joins.take(owner, number) else {
             return Ok(None);
         };
         let join = joins::filled(join, at, value);
@@ -232,7 +233,7 @@ impl Waiting {
                 self.resolve(alloc, &owner, number, &value)?;
                 Ok(None)
             }
-            Reply::Place(owner, join, at) => self.fill(alloc, &owner, join, at, value),
+            Reply::Place(owner, join, at) => self.fill(alloc, owner, join, at, value),
             Reply::Outside(number) => {
                 answers.push((number, value))?;
                 Ok(None)

@@ -3,7 +3,7 @@ use Rattle.sal_mail.specs.declared.effects.Actor.{Actor}
 use Rattle.sal_source.specs.Table.{Table, write}
 use Rattle.sal_source.specs.Keys.{actor_key}
 use Rattle.sal_source.specs.Mapped.{actors_in}
-use Rattle.sal_source.proofs.Mapping.{added}
+use Rattle.sal_source.proofs.Adding.{added}
 use Rattle.sal_source.proofs.actor_map.+add_all.Goals as goal
 
 pub returns-in-Ok-clause-ok : goal.returns-in-Ok-clause-ok

@@ -8,5 +8,5 @@ use Rattle.sal_source.proofs.waiting.Waiting.any_possible.Goals as goal
 
 pub returns : goal.returns
 returns c =
-    any_of message_key (is_possible c.args.actors.now) c.self.inside.messages c.args.self.now.messages c.some_possible.result c.self.invariant.0
+    any_of message_key (is_possible c.args.actors.now) c.self.inside.messages c.args.self.now.messages c.some_possible.result c.self.invariant
     (ap (λ (w : Waiting). w.messages) c.self.view_is) (c.some_possible.ensures ∙ ap (list_any (is_possible c.args.actors.now)) c.as_slice.ensures)

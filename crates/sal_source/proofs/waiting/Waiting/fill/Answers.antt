@@ -1,7 +1,7 @@
 use Rattle.std.proofs.Common.{◌≡◌, sym, ap, ◌∙◌}
 use Rattle.std.specs.FinMap as fm
-use Rattle.sal_source.specs.Table.{table_of, write}
-use Rattle.sal_source.specs.Keys.{made_key, join_key}
+use Rattle.sal_source.specs.Table.{write}
+use Rattle.sal_source.specs.Keys.{made_key}
 use Rattle.sal_source.specs.Configuration.{Waiting}
 use Rattle.sal_source.specs.Give.{join_after}
 use Rattle.sal_source.specs.Step.{put_join}
@@ -10,9 +10,9 @@ use Rattle.sal_source.proofs.waiting.Waiting.fill.Goals as goal
 
 pub returns-clause-waiting : goal.returns-clause-waiting
 returns-clause-waiting c =
-    let k = made_key c.args.owner.now c.args.number in
-    let joins : put_join c.in-Some.owner c.filled-join.result (table_of join_key c.take.new.items) ≡ write c.args.self.now.joins k (join_after c.args.at c.args.value (fm.get c.args.self.now.joins k)) =
+    let k = made_key c.args.owner c.args.number in
+    let joins : put_join c.in-Some.owner c.filled-join.result c.take.new.self ≡ write c.args.self.now.joins k (join_after c.args.at c.args.value (fm.get c.args.self.now.joins k)) =
     ap (put_join c.in-Some.owner c.filled-join.result) c.in-Some.ensures.rest
-    ∙ filled_again (table_of join_key c.self.inside.joins) k c.in-Some.owner c.args.at c.args.value c.in-Some.join c.filled-join.result c.in-Some.ensures.taken c.in-Some.ensures.keyed c.filled-join.ensures (sym c.is_full.ensures ∙ c.if-is_full.false)
+    ∙ filled_again c.self.inside.joins k c.in-Some.owner c.args.at c.args.value c.in-Some.join c.filled-join.result c.in-Some.ensures.taken c.in-Some.ensures.keyed c.filled-join.ensures (sym c.is_full.ensures ∙ c.if-is_full.false)
     ∙ ap (λ (w : Waiting). write w.joins k (join_after c.args.at c.args.value (fm.get w.joins k))) c.self.view_is in
     c.in_ok-put_join.ensures ∙ (λ i. record { messages = (c.self.view_is i).messages; joins = joins i })

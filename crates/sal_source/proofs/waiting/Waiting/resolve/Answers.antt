@@ -10,11 +10,9 @@ use Rattle.sal_source.proofs.Waits.{resolve_keeps}
 use Rattle.sal_source.proofs.waiting.Waiting.resolve.Goals as goal
 
 pub invariant_of-self-2 : goal.invariant_of-self-2
-invariant_of-self-2 c = (
-  rw (c.in_ok-self-inside.ensures, c.replace-old.ensures.value)
-      (AreDistinct-each message_key (resolve c.args.owner.now c.args.number c.args.value.now) (resolve_keeps c.args.owner.now c.args.number c.args.value.now) c.self.inside.messages c.self.invariant.0),
-  c.self.invariant.1,
-)
+invariant_of-self-2 c =
+    rw (c.in_ok-self-inside.ensures, c.replace-old.ensures.value)
+    (AreDistinct-each message_key (resolve c.args.owner.now c.args.number c.args.value.now) (resolve_keeps c.args.owner.now c.args.number c.args.value.now) c.self.inside.messages c.self.invariant)
 
 pub returns : goal.returns
 returns c =

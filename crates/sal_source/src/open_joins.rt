@@ -1,0 +1,160 @@
+//! The open joins, found by their numbers and owners.
+
+ghost use Rattle.std.specs.Prelude.{◌≡◌, Some, None, IfSome, IfOk, OnOk};
+ghost use Rattle.std.specs.FinMap as fm;
+ghost use Rattle.sal_source.specs.Table.{write};
+ghost use Rattle.sal_source.specs.Keys.{made_key, join_key};
+ghost use Rattle.sal_source.specs.Mapped.{join_of, join_words, joins_in};
+ghost use Rattle.sal_source.specs.Step.{put_join};
+
+use crate::copies;
+use sal_mail::{Join, Reply};
+use sal_value::{List, Name, NoMemory, Value, keys_tell_names};
+use std::alloc::Global;
+use std::collections::BTreeMap;
+use std::marker::Model;
+
+/// What an open join is but for its owner and number.
+#[derive(Drop)]
+pub struct OpenJoin {
+    places: List<Option<Value>>,
+    void: bool,
+    reply: Reply,
+}
+
+type Joins = BTreeMap<(u64, Name), OpenJoin>;
+
+/// The join of this key, with its owner.
+fn join_at(key: (u64, Name), rest: OpenJoin) -> (Name, Join)
+    ensures { result ≡ join_of (key, rest) }
+{
+    let (number, owner) = key;
+    let OpenJoin {
+        places,
+        void,
+        reply,
+    } = rest;
+    let join = Join {
+        number,
+        places,
+        void,
+        reply,
+    };
+    (owner, join)
+}
+
+fn insert(joins: &mut Joins, key: (u64, Name), rest: OpenJoin) -> Result<(), NoMemory>
+    ensures { OnOk result (joins_in joins.new.entries ≡ write (joins_in joins.old.entries) (join_words key) (Some (join_of (key, rest)))) }
+{
+    keys_tell_names();
+    joins.insert(key, rest)?;
+    Ok(())
+}
+
+fn take(joins: &mut Joins, key: &(u64, Name)) -> Option<(Name, Join)>
+    ensures taken { result ≡ fm.get (joins_in joins.old.entries) (join_words key.now) }
+    ensures keyed { IfSome result (λ it. join_words key.now ≡ join_key it) }
+    ensures rest { joins_in joins.new.entries ≡ write (joins_in joins.old.entries) (join_words key.now) None }
+{
+    match joins.remove_entry(key) {
+        Some((key, rest)) => Some(join_at(key, rest)),
+        None => None,
+    }
+}
+
+fn count(joins: &Joins) -> usize
+    ensures { result ≡ fm.len (joins_in joins.now.entries) }
+{
+    joins.len()
+}
+
+fn copied(joins: &Joins, alloc: Global) -> Result<Joins, NoMemory>
+    ensures { IfOk result (λ copy. joins_in copy.entries ≡ joins_in joins.now.entries) }
+{
+    let mut copies = BTreeMap::new(alloc);
+    for (key, rest) in joins.iter() {
+        let key = (key.0, key.1.clone_in(alloc)?);
+        insert(&mut copies, key, copied_rest(alloc, rest)?)?;
+    }
+    Ok(copies)
+}
+
+fn copied_rest(alloc: Global, rest: &OpenJoin) -> Result<OpenJoin, NoMemory>
+    ensures { IfOk result (λ copy. copy ≡ rest.now) }
+{
+    Ok(OpenJoin {
+        places: copies::places(alloc, rest.places.as_slice())?,
+        void: rest.void,
+        reply: copies::reply(alloc, &rest.reply)?,
+    })
+}
+
+/// The open joins with their owners.
+#[derive(Drop)]
+pub struct OpenJoins {
+    joins: Joins,
+}
+
+impl Model for OpenJoins {
+    ghost use Rattle.sal_mail.specs.declared.message.Join as spec;
+    ghost use Rattle.sal_value.specs.declared.name.Name as name;
+    ghost use Rattle.sal_source.specs.Table.{Table};
+    ghost use Rattle.sal_source.specs.Mapped.{joins_in};
+    ghost use Rattle.sal_source.specs.Configuration.{joins_code};
+
+    ghost Value = { Table (name.Name × spec.Join) };
+
+    ghost coded = { joins_code };
+
+    ghost view = { λ x. joins_in x.joins.entries };
+}
+
+impl OpenJoins {
+    pub fn new(alloc: Global) -> OpenJoins
+        ensures { result ≡ fm.empty }
+    {
+        OpenJoins {
+            joins: BTreeMap::new(alloc),
+        }
+    }
+
+    pub fn copied(&self, alloc: Global) -> Result<OpenJoins, NoMemory>
+        ensures { IfOk result (λ copy. copy ≡ self.now) }
+    {
+        let joins = copied(&self.joins, alloc)?;
+        Ok(OpenJoins { joins })
+    }
+
+    pub fn len(&self) -> usize
+        ensures { result ≡ fm.len self.now }
+    {
+        count(&self.joins)
+    }
+
+    /// Takes out the owner's join of this number.
+    pub fn take(&mut self, owner: Name, number: u64) -> Option<(Name, Join)>
+        ensures taken { result ≡ fm.get self.old (made_key owner number) }
+        ensures keyed { IfSome result (λ it. made_key owner number ≡ join_key it) }
+        ensures rest { self.new ≡ write self.old (made_key owner number) None }
+    {
+        take(&mut self.joins, &(number, owner))
+    }
+
+    /// Opens the owner's join.
+    pub fn put(&mut self, owner: Name, join: Join) -> Result<(), NoMemory>
+        ensures { OnOk result (self.new ≡ put_join owner join self.old) }
+    {
+        let Join {
+            number,
+            places,
+            void,
+            reply,
+        } = join;
+        let rest = OpenJoin {
+            places,
+            void,
+            reply,
+        };
+        insert(&mut self.joins, (number, owner), rest)
+    }
+}
