@@ -1,7 +1,6 @@
 -- What the effects of a handler keep, whatever the program: its actor's next numbers, each once; what its
 -- messages wait for; and to whom replies are owed.
 use Rattle.std.specs.Prelude.{◌≡◌, ◌≢◌, ℕ, ◌+◌, map, ◌≤◌, ◌<◌, ◌⊎◌, nat_eq, true, if◌then◌else◌, List, [], ◌∷◌, ◌++◌, length, Some, None}
-use Rattle.std.specs.Str.{bytes_eq}
 use Rattle.sal_value.specs.declared.name.Name.{Name}
 use Rattle.sal_value.specs.declared.value.Value.{Value}
 use Rattle.sal_value.specs.Spelling.{is_legal, name_is_spelled}
@@ -23,7 +22,8 @@ use Rattle.sal_mail.specs.declared.effects.Creation.{Creation}
 use Rattle.sal_mail.specs.declared.effects.Answer.{Answer}
 use Rattle.sal_mail.specs.declared.effects.Answer.TheVariants as answer
 use Rattle.sal_mail.specs.declared.effects.Effects.{Effects}
-use Rattle.sal_mail.specs.Address.{address}
+pub use Rattle.sal_mail.specs.Address.{address, owes}
+pub use Rattle.sal_mail.specs.Sums.{total}
 use Rattle.sal_handler.specs.declared.turn.Outcome.TheVariants.{Done}
 use Rattle.sal_handler.specs.Calls.{Call}
 use Rattle.sal_handler.specs.Scopes.{fresh_name}
@@ -33,11 +33,6 @@ use Rattle.sal_handler.specs.Handler.{handle}
 abbrev pub EachOf : {X : Type 0} → (X → Type 0) → List X → Type 0
 EachOf P [] = Unit {0}
 EachOf P (x ∷ xs) = P x × EachOf P xs
-
--- the sum of a number of each item
-abbrev pub total : {X : Type 0} → (X → ℕ) → List X → ℕ
-total f [] = 0
-total f (x ∷ xs) = f x + total f xs
 
 -- ---- numbers
 
@@ -144,10 +139,6 @@ pub record IsGoodMessage (me : Name) (caller : Reply) (from to : ℕ) (sizes : L
   pub reply : IsOwedWell me caller from to m.reply
 
 -- ---- replies
-
--- 1 where the reply is owed to this address, else 0
-abbrev pub owes : List ℕ → Reply → ℕ
-owes a r = if bytes_eq a (address r) then 1 else 0
 
 -- how often the new messages and joins owe a reply to this address
 abbrev pub owed : List ℕ → List Message → List Join → ℕ

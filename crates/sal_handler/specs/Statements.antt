@@ -72,11 +72,6 @@ sequence (m ∷ ms) r = m r >>= (λ f. after f (sequence ms r))
 abbrev pub blocked : List Run → Run
 blocked list r = scoped (sequence list r)
 
--- what stands behind `else`, if there is an `else`
-abbrev pub otherwise : Option Run → Run
-otherwise None r = pure Next
-otherwise (Some m) r = scoped (m r)
-
 -- ---- loops
 
 -- whether a test is true; what is no boolean is false

@@ -16,10 +16,14 @@ use Rattle.sal_mail.specs.declared.message.Message.{Message}
 use Rattle.sal_mail.specs.declared.message.Join.{Join}
 use Rattle.sal_mail.specs.Message.{known, told, is_other, fill, filled, is_full, collected}
 use Rattle.sal_source.specs.Table.{Words, words_eq, Table, write, table_map, total, weigh, Same}
-use Rattle.sal_source.specs.Keys.{name_key, made_key, address}
+use Rattle.sal_source.specs.Keys.{name_key, made_key}
+use Rattle.sal_mail.specs.Address.{address, owes}
+use Rattle.std.specs.Str.{bytes_eq}
+use Rattle.std.proofs.lemmas.Slice.Eq.{bytes_eq-Decides}
+use Rattle.std.specs.Prelude.{if◌then◌else◌}
 use Rattle.sal_source.specs.Configuration.{Waiting}
 use Rattle.sal_source.specs.Give.{Given, resolve, open_after, array_of, place_filled, join_after, join_gives, give_to, gives_on, give_one, released, answer_of, settle, told_by, most, settled, told_after}
-use Rattle.sal_source.specs.Laws.{owes, owed, IsOwedOnce}
+use Rattle.sal_source.specs.Laws.{owed, IsOwedOnce}
 use Rattle.sal_source.proofs.Tables.{words_refl, words_tells, words_apart, same_table, get-write, get-map}
 use Rattle.sal_source.proofs.Weights.{weigh-write, weigh-map, weight_of}
 use Rattle.sal_source.proofs.Same.{bool_cases, Test, test_of, copies, found, copy_first, same_refl, same_sym, same_trans, same_eq, same_length, total-append, total_none}
@@ -369,6 +373,9 @@ owed_one a g gs c =
 
 -- ---- any order
 
+pub owes_own : (r : Reply) → owes (address r) r ≡ 1
+owes_own r = ap (λ (b : Bool). if b then 1 else 0) ((bytes_eq-Decides (address r) (address r)).1 refl)
+
 pub once_same : (gs hs : List Given) (c : Waiting) → Same gs hs → IsOwedOnce gs c → IsOwedOnce hs c
 once_same gs hs c s once r n = let e = s.weighs (λ g. owes (address r) g.0) in let o = once r n in omega arith
 
@@ -383,8 +390,8 @@ most_after n g gs c h =
 swap_once : (g h : Given) (gs : List Given) (c : Waiting) → IsOwedOnce (g ∷ h ∷ gs) c → GivenSwap g h c
 swap_once g h gs c once = swap_given g h c (λ n e.
     let o = once g.0 n in
-    let a : owes (address g.0) g.0 ≡ 1 = ap (λ (b : Bool). cond {A = ℕ} b 1 0) (words_refl (address g.0)) in
-    let b : owes (address g.0) h.0 ≡ 1 = ap (λ (w : Words). cond {A = ℕ} (words_eq (address g.0) w) 1 0) (sym e) ∙ a in
+    let a : owes (address g.0) g.0 ≡ 1 = owes_own g.0 in
+    let b : owes (address g.0) h.0 ≡ 1 = ap (λ (w : Words). if bytes_eq (address g.0) w then 1 else 0) (sym e) ∙ a in
     omega arith)
 
 same_nil : (hs : List Given) → Same [] hs → hs ≡ []

@@ -6,8 +6,6 @@ use Rattle.std.specs.FinMap as fm
 use Rattle.std.specs.FinSet as fs
 use Rattle.sal_value.specs.declared.name.Name.{Name}
 use Rattle.sal_value.specs.declared.name.Name.TheVariants as name
-use Rattle.sal_value.specs.declared.name.Uan.{Uan}
-use Rattle.sal_value.specs.Order.{KeysTellNames}
 use Rattle.sal_value.specs.declared.name.Authority.{Authority}
 use Rattle.sal_value.specs.declared.value.Value.TheVariants.{Null}
 use Rattle.sal_mail.specs.declared.message.Message.{Message}
@@ -78,17 +76,6 @@ module _ {X : Type 0} (key : X → Words) (t : X → Bool) where
       let p : Passes xs = found_true xs d (sym h) in
       (p.m, (ap (λ u. fm.get u (key p.m)) (sym e) ∙ get-table_of key xs (key p.m) ∙ p.there, p.passes))
   any_of xs table false d e h = λ q. let P : Option X → Type 0 = λ o. IfSome o (λ m. t m ≡ false) in subst P (sym (get-table_of key xs q) ∙ ap (λ u. fm.get u q) e) (found_false q xs (sym h))
-
-  any_is : (xs : List X) (q : Words) → is_some (found key q xs) ≡ list_any (λ x. words_eq q (key x)) xs
-  any_is [] q = refl
-  any_is (x ∷ xs) q = at (words_eq q (key x)) ∙ ap (λ b. words_eq q (key x) || b) (any_is xs q)
-    where
-      at : (b : Bool) → is_some (cond b (Some x) (found key q xs)) ≡ (b || is_some (found key q xs))
-      at true = refl
-      at false = refl
-
-pub has_key : {X : Type 0} (key : X → Words) (xs : List X) (table : Table X) (q : Words) → table_of key xs ≡ table → list_any (λ x. words_eq q (key x)) xs ≡ fm.contains_key table q
-has_key key xs table q e = sym (any_is key (λ x. true) xs q) ∙ ap is_some (sym (get-table_of key xs q)) ∙ ap (λ t. fm.contains_key t q) e
 
 -- ---- no step is possible
 
@@ -193,22 +180,6 @@ module _ (c : Configuration) where
         at false g h = some_none _ _ (bind_done setup.authorities p.0.0 p.0.1.serial c p.0 (sym p.1.0) h (given_is given p.0 ∙ g)) (end trapping (step.Bind p.0.0 p.0.1.serial) refl)
 
 -- ---- what the code finds
-
-pub same_name_as : (b : Bool) (u other : Uan) (it : Name) → (IsTrue b ↔ (u ≡ other)) → it ≡ name.Uan other → KeysTellNames → b ≡ words_eq (name_key (name.Uan u)) (name_key it)
-same_name_as true u other it h e tell = sym (ap (λ n. words_eq (name_key (name.Uan u)) (name_key n)) (e ∙ ap name.Uan (sym (h.0 refl))) ∙ words_refl (name_key (name.Uan u)))
-same_name_as false u other it h e tell = sym (words_apart (name_key (name.Uan u)) (name_key it) (λ k. true≢false (sym (h.1 (uan_is (tell (name.Uan u) it k ∙ e))))))
-  where
-    uan_is : name.Uan u ≡ name.Uan other → u ≡ other
-    uan_is e = cc
-
-other_name : (u : Uan) (it : Name) → (name.Uan u ≡ it → ⊥) → KeysTellNames → false ≡ words_eq (name_key (name.Uan u)) (name_key it)
-other_name u it n tell = sym (words_apart (name_key (name.Uan u)) (name_key it) (λ k. n (tell (name.Uan u) it k)))
-
-pub not_anonymous : (u : Uan) (it : Name) (theatre number : ℕ) → it ≡ name.Anon theatre number → KeysTellNames → false ≡ words_eq (name_key (name.Uan u)) (name_key it)
-not_anonymous u it theatre number e tell = other_name u it (λ f. absurd (let g : name.Uan u ≡ name.Anon theatre number = f ∙ e in cc)) tell
-
-pub not_outside : (u : Uan) (it : Name) (number : ℕ) → it ≡ name.Outside number → KeysTellNames → false ≡ words_eq (name_key (name.Uan u)) (name_key it)
-not_outside u it number e tell = other_name u it (λ f. absurd (let g : name.Uan u ≡ name.Outside number = f ∙ e in cc)) tell
 
 pub not_final : (c : Configuration) (setup : Setup) → AnyOf message_key (is_possible c.actors) c.waiting.messages true → IsTrue false ↔ s.IsAtEnd setup c
 not_final c setup p = (λ f. absurd (true≢false (sym f)), λ end. absurd (message_goes c setup p end))

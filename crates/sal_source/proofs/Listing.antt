@@ -1,6 +1,6 @@
 -- What lists with distinct keys give, take and lose.
-use Rattle.std.proofs.Common.{◌≡◌, ℕ, ◌++◌, Bool, true, false, cond, List, [], ◌∷◌, Option, Some, None, refl, sym, ap, subst, ◌∙◌}
-use Rattle.std.specs.Prelude.{slice_get, slice_set, remove, IfSome}
+use Rattle.std.proofs.Common.{◌≡◌, ℕ, ◌++◌, Bool, true, false, cond, List, [], ◌∷◌, Some, None, refl, sym, ap, subst, ◌∙◌}
+use Rattle.std.specs.Prelude.{slice_get, slice_set, remove}
 use Rattle.std.specs.FinMap as fm
 use Rattle.sal_source.specs.Table.{Words, words_eq, Table, write, table_of}
 use Rattle.sal_source.specs.Listed.{found, IsFirst, Finds, AreDistinct}
@@ -59,6 +59,3 @@ module _ {X : Type 0} (key : X → Words) where
 
   pub got_at : (q : Words) (xs : List X) (i : ℕ) → Finds key q xs (Some i) → slice_get xs i ≡ fm.get (table_of key xs) q
   got_at q xs i f = IsFirst-get key q xs i f.0 f.1 ∙ sym (IsFirst-table key q xs i f.0 f.1)
-
-  pub key_at : (q : Words) (xs : List X) (i : ℕ) → Finds key q xs (Some i) → IfSome (slice_get xs i) (λ x. q ≡ key x)
-  key_at q xs i f = let P : Option X → Type 0 = λ o. IfSome o (λ x. q ≡ key x) in subst P (sym (IsFirst-get key q xs i f.0 f.1)) (IsFirst-key key q xs i f.0 f.1)

@@ -92,11 +92,6 @@ module _ {X : Type 0} (key : X → Words) where
   IsFirst-get q (x ∷ xs) zero y h = ap (λ z. Some z) h.1
   IsFirst-get q (x ∷ xs) (suc i) y h = IsFirst-get q xs i y h.1
 
-  pub IsFirst-lt : (q : Words) (xs : List X) (i : ℕ) (y : X) → IsFirst key q xs i y → i < length xs
-  IsFirst-lt q [] i y h = absurd h
-  IsFirst-lt q (x ∷ xs) zero y h = omega arith
-  IsFirst-lt q (x ∷ xs) (suc i) y h = let r : i < length xs = IsFirst-lt q xs i y h.1 in omega arith
-
   -- one more item was passed
   pub found-more : (q : Words) (xs : List X) (i : ℕ) (y : X) → slice_get xs i ≡ Some y → words_eq q (key y) ≡ false → found key q (take i xs) ≡ None → found key q (take (suc i) xs) ≡ None
   found-more q [] i y e f h = refl
@@ -235,25 +230,6 @@ module _ {X : Type 0} (key : X → Words) where
   abbrev pub keyed : List X → List (Words × X)
   keyed = map (λ x. (key x, x))
 
-  below-set : (k : Words) (xs : List X) (i : ℕ) (x' y : X) → IsFirst key (key x') xs i y → T (es.below_all words_cmp k (keyed xs)) → T (es.below_all words_cmp k (keyed (slice_set xs i x')))
-  below-set k [] i x' y h b = absurd h
-  below-set k (x ∷ xs) zero x' y h b = subst (λ a. T (is_lt (words_cmp k a) && es.below_all words_cmp k (keyed xs))) (sym (same_words (key x') (key x) h.0)) b
-  below-set k (x ∷ xs) (suc i) x' y h b = both (is_lt (words_cmp k (key x))) _ _ (below-set k xs i x' y h.1) b
-    where
-      both : (a b c : Bool) → (T b → T c) → T (a && b) → T (a && c)
-      both true b c f h = f h
-      both false b c f h = absurd h
-
-  pub sorted-set : (xs : List X) (i : ℕ) (x' y : X) → IsFirst key (key x') xs i y → T (es.is_sorted words_cmp (keyed xs)) → T (es.is_sorted words_cmp (keyed (slice_set xs i x')))
-  sorted-set [] i x' y h s = absurd h
-  sorted-set (x ∷ xs) zero x' y h s = subst (λ a. T (es.below_all words_cmp a (keyed xs) && es.is_sorted words_cmp (keyed xs))) (sym (same_words (key x') (key x) h.0)) s
-  sorted-set (x ∷ xs) (suc i) x' y h s = both (es.below_all words_cmp (key x) (keyed xs)) _ _ _ (below-set (key x) xs i x' y h.1) (sorted-set xs i x' y h.1) s
-    where
-      both : (a b c d : Bool) → (T a → T c) → (T b → T d) → T (a && b) → T (c && d)
-      both true b true d p q h = q h
-      both true b false d p q h = absurd (p tt)
-      both false b c d p q h = absurd h
-
   -- the items of a sorted list are the table's values in their order
   pub values-table_of : (xs : List X) → T (es.is_sorted words_cmp (keyed xs)) → map (λ e. e.1) (fm.entries (table_of key xs)) ≡ xs
   values-table_of xs s =
@@ -280,13 +256,6 @@ module _ {X : Type 0} (key : X → Words) where
 
   pub none-table : (q : Words) (xs : List X) → found key q xs ≡ None → fm.get (table_of key xs) q ≡ None
   none-table q xs h = get-table_of xs q ∙ h
-
-  -- an item with the key of the first one at a key
-  pub IsFirst-as : (q : Words) (xs : List X) (i : ℕ) (y x' : X) → key x' ≡ key y → IsFirst key q xs i y → IsFirst key (key x') xs i y
-  IsFirst-as q xs i y x' e h = let P : Words → Type 0 = λ k. IsFirst key k xs i y in subst P (IsFirst-key q xs i y h ∙ sym e) h
-
-  pub table-take : (q : Words) (xs : List X) (i : ℕ) (y : X) → AreDistinct key xs → IsFirst key q xs i y → table_of key (remove xs i) ≡ write (table_of key xs) (key y) None
-  table-take q xs i y d h = table-remove q xs i y d h ∙ ap (λ k. write (table_of key xs) k None) (IsFirst-key q xs i y h)
 
 -- an index within a list gets the item there
 pub slice_get_is : {X : Type 0} (xs : List X) (i : ℕ) (x : X) → i < length xs → x ≡ get_or xs i x → slice_get xs i ≡ Some x

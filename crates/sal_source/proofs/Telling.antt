@@ -2,7 +2,7 @@
 use Rattle.std.proofs.Common.{◌≡◌, ◌⊎◌, inl, inr, ℕ, zero, suc, ◌+◌, ◌≤◌, Bool, true, false, cond, ◌&&◌, if◌then◌else◌, List, [], ◌∷◌, ◌++◌, length, Some, refl, sym, ap, ◌∙◌, arith}
 use Rattle.std.specs.Prelude.{nat_le}
 use Rattle.std.proofs.lemmas.Bool.{le-leb}
-use Rattle.std.proofs.lemmas.Slice.Eq.{bytes_eq-Decides}
+use Rattle.sal_source.proofs.Commute.{owes_own}
 use Rattle.std.specs.FinMap as fm
 use Rattle.sal_value.specs.declared.name.Name.{Name}
 use Rattle.sal_mail.specs.declared.message.Reply.{Reply}
@@ -64,9 +64,6 @@ total_less : {X : Type 0} (P : X → Type 0) (g h : X → ℕ) (xs : List X) →
 total_less P g h [] p l = omega arith
 total_less P g h (x ∷ xs) p l = omega (arith, l x p.0, total_less P g h xs p.1 l)
 
-owes_same : (r : Reply) → owes (address r) r ≡ 1
-owes_same r = ap (λ b. if b then 1 else 0) ((bytes_eq-Decides (address r) (address r)).1 refl)
-
 module _ (c : Configuration) (kept : KeptIn c) (m : Message) (a : Actor × ℕ) (fresh : List Name) (e : Effects) (sizes : List ℕ) (at : fm.get c.actors (name_key a.0.name) ≡ Some a) (actor : IsActor a.0.name) (owed : IsOwedOld c.actors c.posted m.reply)
     (order : IsOrderly sizes (call_of m a fresh) e) (fits : fits_fresh fresh e c ≡ true) where
   abbrev me : Name
@@ -93,7 +90,7 @@ module _ (c : Configuration) (kept : KeptIn c) (m : Message) (a : Actor × ℕ) 
   -- a new reply isn't the actor's own only where it is owed to whom the handled one is
   well_owes : (r : Reply) → IsOwedWell me m.reply a.1 e.serial r → far r ≤ owes (address m.reply) r
   well_owes r (inl same) = let none : far r ≡ 0 = ap far same in omega (arith, none)
-  well_owes r (inr (inl same)) = let one : owes (address m.reply) r ≡ 1 = ap (owes (address m.reply)) same ∙ owes_same m.reply in omega (arith, one, foreign_most me a.1 r)
+  well_owes r (inr (inl same)) = let one : owes (address m.reply) r ≡ 1 = ap (owes (address m.reply)) same ∙ owes_own m.reply in omega (arith, one, foreign_most me a.1 r)
   well_owes r (inr (inr h)) = let none = own_not me a.1 r (new_own r h) in omega (arith, none)
 
   well_none : m.reply ≡ Nobody → (r : Reply) → IsOwedWell me m.reply a.1 e.serial r → far r ≤ 0

@@ -1,5 +1,5 @@
 -- What the calls that change a configuration answer and leave.
-use Rattle.std.specs.Prelude.{◌≡◌, ℕ, ◌<◌, ◌≤◌, Bool, true, false, List, [], ◌∷◌, ◌++◌, reverse, Option, Some, None, Result, Ok, Err, if◌then◌else◌}
+use Rattle.std.specs.Prelude.{◌≡◌, ℕ, Bool, true, false, List, [], ◌∷◌, ◌++◌, reverse, Option, Some, None, Result, Ok, Err, if◌then◌else◌}
 use Rattle.sal_value.specs.declared.name.Name.{Name}
 use Rattle.sal_value.specs.declared.value.Value.{Value}
 use Rattle.sal_value.specs.declared.text.NoMemory.{NoMemory}
@@ -19,11 +19,6 @@ Takes outcome old (Err e) new = new ≡ old
 abbrev pub listed : {A : Type 0} → Option A → List A
 listed None = []
 listed (Some a) = a ∷ []
-
--- a place of a list with so many items, or one where an item may be put
-abbrev pub IsWithin : ℕ → Result ℕ ℕ → Type 0
-IsWithin n (Ok i) = i < n
-IsWithin n (Err i) = i ≤ n
 
 -- there is such a place, and it is empty
 abbrev pub is_open : Option (Option Value) → Bool

@@ -1,11 +1,9 @@
 -- Names, messages, joins, creations and addresses as keys of tables.
-use Rattle.std.specs.Prelude.{ℕ, [], ◌∷◌}
+use Rattle.std.specs.Prelude.{ℕ, ◌∷◌}
 use Rattle.sal_value.specs.declared.name.Name.{Name}
 use Rattle.sal_value.specs.Order.{key}
 use Rattle.sal_mail.specs.declared.message.Message.{Message}
 use Rattle.sal_mail.specs.declared.message.Join.{Join}
-use Rattle.sal_mail.specs.declared.message.Reply.{Reply}
-use Rattle.sal_mail.specs.declared.message.Reply.TheVariants.{Nobody, Tok, Place, Outside}
 use Rattle.sal_mail.specs.declared.effects.Actor.{Actor}
 use Rattle.sal_mail.specs.declared.effects.Creation.{Creation}
 use Rattle.sal_source.specs.Table.{Words}
@@ -33,10 +31,3 @@ creation_key c = made_key c.0 c.1.serial
 -- an actor with its next number
 abbrev pub actor_key : Actor × ℕ → Words
 actor_key a = name_key a.0.name
-
--- the address to which a reply is owed; `Nobody` has none
-abbrev pub address : Reply → Words
-address Nobody = []
-address (Tok owner number) = 0 ∷ number ∷ name_key owner
-address (Place owner join at) = 1 ∷ at ∷ join ∷ name_key owner
-address (Outside number) = 2 ∷ number ∷ []

@@ -1,15 +1,11 @@
 -- What holds of every configuration, whatever the program.
-use Rattle.std.specs.Prelude.{◌≡◌, ◌≢◌, ℕ, ◌+◌, ◌≤◌, List, [], ◌∷◌, cond}
+use Rattle.std.specs.Prelude.{◌≡◌, ◌≢◌, ℕ, ◌+◌, ◌≤◌, List, [], ◌∷◌}
 use Rattle.sal_mail.specs.declared.message.Reply.{Reply}
 use Rattle.sal_mail.specs.declared.message.Reply.TheVariants.{Nobody}
-use Rattle.sal_source.specs.Table.{Words, words_eq, total, weigh, Same}
-use Rattle.sal_source.specs.Keys.{address}
+use Rattle.sal_source.specs.Table.{Words, total, weigh, Same}
+use Rattle.sal_mail.specs.Address.{address, owes}
 use Rattle.sal_source.specs.Configuration.{Waiting, Configuration}
 use Rattle.sal_source.specs.Give.{Given, give}
-
--- whether the reply is owed to this address, as a number
-abbrev pub owes : Words → Reply → ℕ
-owes a r = cond (words_eq a (address r)) 1 0
 
 -- how often the address is owed: among the replies that are to be given, the pending messages and the open joins
 abbrev pub owed : Words → List Given → Waiting → ℕ

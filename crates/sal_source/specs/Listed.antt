@@ -1,5 +1,5 @@
 -- How lists stand for tables: what the code that keeps a configuration finds in its lists.
-use Rattle.std.specs.Prelude.{◌≡◌, ℕ, zero, suc, Bool, IfSome, true, false, cond, map, List, [], ◌∷◌, Option, Some, None, Result, Ok, Err, T}
+use Rattle.std.specs.Prelude.{◌≡◌, ℕ, zero, suc, Bool, IfSome, true, false, cond, map, List, [], ◌∷◌, Option, Some, None, T}
 use Rattle.std.specs.FinMap as fm
 use Rattle.std.specs.FinMap.Entries.{is_sorted}
 use Rattle.std.specs.declared.cmp.Ordering.TheVariants.{Less}
@@ -41,11 +41,6 @@ abbrev pub SplitsAt : {X : Type 0} → (X → Words) → Words → List X → �
 SplitsAt key q [] i = Unit {0}
 SplitsAt key q (x ∷ xs) zero = words_cmp q (key x) ≡ Less
 SplitsAt key q (x ∷ xs) (suc i) = (words_cmp (key x) q ≡ Less) × SplitsAt key q xs i
-
--- the place of the item at the key in a sorted list, or else the one where it would stand
-abbrev pub Searches : {X : Type 0} → (X → Words) → Words → List X → Result ℕ ℕ → Type 0
-Searches {X} key q xs (Ok i) = (y : X) × IsFirst key q xs i y
-Searches key q xs (Err i) = SplitsAt key q xs i
 
 -- whether some value of the table passes; that there is none says so of every key
 abbrev pub AnyOf : {X : Type 0} → (X → Words) → (X → Bool) → Table X → Bool → Type 0

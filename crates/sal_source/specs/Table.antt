@@ -1,10 +1,11 @@
 -- Finite tables whose keys are lists of numbers.
-use Rattle.std.specs.Prelude.{◌≡◌, ℕ, ◌+◌, Bool, List, [], ◌∷◌, map, Option, Some, None}
+use Rattle.std.specs.Prelude.{◌≡◌, ℕ, Bool, List, map, Option, Some, None}
 use Rattle.std.specs.Ordering.{nat_cmp, eq_by_cmp}
 use Rattle.std.specs.Cmp.Lexicographic.{slice_cmp}
 use Rattle.std.specs.declared.cmp.Ordering.{Ordering}
 use Rattle.std.specs.FinMap as fm
 use Rattle.std.specs.FinSet as fs
+pub use Rattle.sal_mail.specs.Sums.{total}
 
 -- a key: a list of numbers
 abbrev pub Words : Type 0
@@ -40,11 +41,6 @@ abbrev pub keys_of : {X : Type 0} → Table X → fs.FinSet words_cmp
 keys_of t = fs.from_list (fm.keys t)
 
 -- ---- sums
-
--- the sum of a number of each item
-abbrev pub total : {X : Type 0} → (X → ℕ) → List X → ℕ
-total f [] = 0
-total f (x ∷ xs) = f x + total f xs
 
 -- the sum of a number of each value
 abbrev pub weigh : {X : Type 0} → (X → ℕ) → Table X → ℕ
