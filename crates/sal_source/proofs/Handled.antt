@@ -31,9 +31,6 @@ use Rattle.sal_source.specs.Meeting.{CalledBy, Enters, IsChange, Makes, After, w
 some_is : {A : Type 0} {a b : A} → Some a ≡ Some b → a ≡ b
 some_is e = cc
 
-pub takes_as : (o o' : Option Configuration) (old : Configuration) (r : Result Bool NoMemory) (new : Configuration) → o ≡ o' → Takes o' old r new → Takes o old r new
-takes_as o o' old r new e t = let P : Option Configuration → Type 0 = λ x. Takes x old r new in subst P (sym e) t
-
 -- ---- what waits
 
 reverse_answered : (answer : Answer) (reply : Reply) → reverse (s.answered answer reply) ≡ s.answered answer reply

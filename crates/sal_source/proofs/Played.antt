@@ -20,13 +20,6 @@ pub ready : (o : Option Message) (m : Message) (f : Message → Option Configura
 ready o m f e r = rw (e, r) refl
 
 -- the outcome of this very call
-pub same_outcome : (outcomes : Call → Outcome) (outcome : Outcome) (maker : Name) (serial : ℕ) (fresh : List Name) (c : Configuration) (m : Message) (a : Actor × ℕ) → CalledBy maker serial c m a →
-    outcome ≡ outcomes (call_of m a fresh) → handle_step outcomes maker serial fresh c ≡ handle_step (λ _. outcome) maker serial fresh c
-same_outcome outcomes outcome maker serial fresh c m a called is =
-    handle_called outcomes maker serial fresh c m a called
-    ∙ ap (λ o. after_outcome o maker serial fresh m a.0 (drop_message maker serial c)) (sym is)
-    ∙ sym (handle_called (λ _. outcome) maker serial fresh c m a called)
-
 -- ---- one more step
 
 module _ (p : Meaning) (setup : Setup) where
