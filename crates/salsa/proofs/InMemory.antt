@@ -1,5 +1,5 @@
 -- What the forms in memory say is more than their traits ask.
-use Rattle.std.proofs.Common.{◌≡◌, ◌≢◌, ℕ, if◌then◌else◌, List, [], ◌∷◌, ◌++◌, append-nil, Some, Result, Ok, Err, IsErrOf, OnOk, OnErr, is_err, refl, sym, ap, ◌∙◌, arith}
+use Rattle.std.proofs.Common.{◌≡◌, ◌≢◌, ℕ, if◌then◌else◌, List, [], ◌∷◌, ◌++◌, append-nil, None, Some, Result, Ok, Err, IsErrOf, OnOk, OnErr, is_err, refl, sym, ap, ◌∙◌, arith}
 use Rattle.salsa.specs.declared.memory.Entry.{Entry}
 use Rattle.salsa.specs.declared.outside.OutsideFault.{OutsideFault}
 use Rattle.salsa.specs.declared.outside.OutsideFault.TheVariants.{Failed}
@@ -38,3 +38,12 @@ took_none (Err x) bytes old new e = (0, ap (λ (taken : List ℕ). Some taken) (
 pub not_empty : {T E : Type 0} (r : Result T E) (x : T) (bytes : List ℕ) → (bytes ≡ [] → r ≡ Ok x) → OnErr r (bytes ≢ [])
 not_empty (Ok y) x bytes h = tt
 not_empty (Err y) x bytes h = λ empty. absurd (let e : Err y ≡ Ok x = h empty in cc)
+
+-- of a sink that tells nothing
+pub untold : {A E : Type 0} (r : Result A E) → (bytes : List ℕ) → OnOk r (Grew None None bytes)
+untold (Ok a) bytes = refl
+untold (Err e) bytes = tt
+
+pub untold_prefix : {A E : Type 0} (r : Result A E) (bytes : List ℕ) → OnErr r (GrewByPrefix None None bytes)
+untold_prefix (Ok a) bytes = tt
+untold_prefix (Err e) bytes = (0, refl)

@@ -1,12 +1,15 @@
 //! The files and streams of the system. They tell no contents: this is the edge that no proof
 //! sees.
-ghost use Rattle.std.specs.Prelude.{◌≤◌, None, IfOk, length};
+ghost use Rattle.std.specs.Prelude.{◌≡◌, ◌≢◌, ◌≤◌, [], None, IfOk, IfSome, OnOk, OnErr, length, take};
+ghost use Rattle.std.specs.Bool.{OnTrue};
+ghost use Rattle.std.specs.Io.KnownBytes.{Appends};
+ghost use Rattle.salsa.specs.Outside.{Rose};
 
 use crate::outside::{Failed, Files, OutsideFault, Sink};
 use sal_value::{List, Text};
 use std::alloc::Global;
 use std::fs::File;
-use std::io::{Read, Write};
+use std::io::{self, ErrorKind, Read, Write};
 use std::rt;
 
 /// The files of the system.
@@ -23,43 +26,37 @@ pub struct RealSink<W: Drop> {
     pub faults: u64,
 }
 
+fn fault_of(error: &io::Error) -> OutsideFault {
+    match error.kind() {
+        ErrorKind::OutOfMemory => OutsideFault::Memory,
+        _ => OutsideFault::Failed,
+    }
+}
+
 /// Reads to the end, or up to `most` bytes.
-fn read_most<S: Read>(alloc: Global, source: &mut S, most: usize) -> Result<List<u8>, OutsideFault>
-    ensures { IfOk result (λ bytes. length bytes ≤ most) }
+fn read_most<S: Read + Drop>(
+    alloc: Global,
+    source: S,
+    most: usize,
+) -> Result<List<u8>, OutsideFault>
+    ensures within { IfOk result (λ bytes. length bytes ≤ most) }
+    ensures bytes { IfOk result (λ bytes. IfSome (S.remaining source) (λ whole. bytes ≡ take most whole)) }
 {
     let mut bytes: Vec<u8> = Vec::new(alloc);
-    let mut buffer = [0; 4096];
-    for _ in 0..most {
-        let left = (most - bytes.len()).min(4096);
-        if left == 0 {
-            break;
-        }
-        match source.read(&mut buffer[..left]) {
-            Ok(0) => break,
-            Ok(count) => {
-                if bytes.extend_from_slice(&buffer[..count]).is_err() {
-                    return Err(OutsideFault::Memory);
-                }
-            }
-            Err(_) => return Err(OutsideFault::Failed),
-        }
+    let mut first = source.take(most as u64);
+    if let Err(error) = first.read_to_end(&mut bytes) {
+        return Err(fault_of(&error));
     }
+    // No more than that were read; of a source that tells nothing no contract says so.
+    bytes.truncate(most);
     Ok(List::from_vec(bytes))
 }
 
 /// Whether all bytes were written.
-fn write_whole<W: Write>(stream: &mut W, bytes: &[u8]) -> bool {
-    let mut rest = bytes;
-    for _ in 0..bytes.len() {
-        if rest.is_empty() {
-            break;
-        }
-        match stream.write(rest) {
-            Ok(count) if count > 0 => rest = &rest[count..],
-            _ => return false,
-        }
-    }
-    true
+fn write_whole<W: Write>(stream: &mut W, bytes: &[u8]) -> bool
+    ensures { OnTrue result (Appends (W.contents stream.old) (W.contents stream.new) bytes.now) }
+{
+    stream.write_all(bytes).is_ok()
 }
 
 fn read_file<R: rt::Files>(
@@ -71,7 +68,7 @@ fn read_file<R: rt::Files>(
     ensures { IfOk result (λ bytes. length bytes ≤ most) }
 {
     match File::open(system, name.as_str()) {
-        Ok(mut file) => read_most(alloc, &mut file, most),
+        Ok(file) => read_most(alloc, file, most),
         Err(_) => Err(OutsideFault::Failed),
     }
 }
@@ -110,7 +107,12 @@ impl<W: Write + Drop> Sink for RealSink<W> {
 
     ghost faults = { λ s. s.faults };
 
-    fn put(&mut self, bytes: &[u8]) -> Result<(), Failed> {
+    fn put(&mut self, bytes: &[u8]) -> Result<(), Failed>
+        ensures written { OnOk result (Appends (W.contents self.old.stream) (W.contents self.new.stream) bytes.now) }
+        ensures later { self.old.faults ≤ self.new.faults }
+        ensures failed { OnErr result (Rose self.old.faults self.new.faults) }
+        ensures nothing { OnErr result (bytes.now ≢ []) }
+    {
         if bytes.is_empty() || write_whole(&mut self.stream, bytes) {
             return Ok(());
         }
