@@ -1,8 +1,9 @@
-//! The files and streams of the system. They tell no contents: this is the edge that no proof
-//! sees.
+//! The files and streams of the system. They tell no contents: this is the edge that no proof sees.
+//! Of readers and writers that tell what they give and take, the same functions are proved.
 ghost use Rattle.std.specs.Prelude.{◌≡◌, ◌≢◌, ◌≤◌, [], None, IfOk, IfSome, OnOk, OnErr, length, take};
 ghost use Rattle.std.specs.Bool.{OnTrue};
 ghost use Rattle.std.specs.Io.KnownBytes.{Appends};
+ghost use Rattle.std.specs.IoError.{error_kind};
 ghost use Rattle.salsa.specs.Outside.{Rose};
 
 use crate::outside::{Failed, Files, OutsideFault, Sink};
@@ -26,10 +27,15 @@ pub struct RealSink<W: Drop> {
     pub faults: u64,
 }
 
-fn fault_of(error: &io::Error) -> OutsideFault {
-    match error.kind() {
-        ErrorKind::OutOfMemory => OutsideFault::Memory,
-        _ => OutsideFault::Failed,
+/// Want of memory, where the system's error tells it.
+fn fault_of(error: &io::Error) -> OutsideFault
+    ensures memory { error_kind error.now ≡ ErrorKind.OutOfMemory → result ≡ OutsideFault.Memory }
+    ensures other { error_kind error.now ≢ ErrorKind.OutOfMemory → result ≡ OutsideFault.Failed }
+{
+    if error.kind() == ErrorKind::OutOfMemory {
+        OutsideFault::Memory
+    } else {
+        OutsideFault::Failed
     }
 }
 
