@@ -1,4 +1,5 @@
--- How the ordered maps of a run stand for its tables of actors and of open joins.
+-- How the ordered maps of a run stand for its tables of actors and of open joins: what the code that keeps a run
+-- finds in its maps.
 use Rattle.std.specs.Prelude.{ℕ, List, map, Option, Some, None}
 use Rattle.sal_value.specs.declared.name.Name.{Name}
 use Rattle.sal_value.specs.declared.name.Name.TheVariants as name
