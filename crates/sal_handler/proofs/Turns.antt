@@ -1,5 +1,5 @@
--- The count of loop turns doesn't go back, nor past 100,000.
-use Rattle.std.proofs.Common.{◌≡◌, ℕ, zero, suc, ◌+◌, ◌≤◌, ◌<◌, ℤ, Bool, true, false, if◌then◌else◌, List, [], ◌∷◌, ◌++◌, length, map, Option, Some, None, Ok, Err, refl, ap, ◌∙◌, arith}
+-- The count of loop turns doesn't go back, nor past 100,000; a handler makes few things, and each takes one number.
+use Rattle.std.proofs.Common.{◌≡◌, ℕ, zero, suc, ◌+◌, ◌≤◌, ◌<◌, ℤ, Bool, true, false, if◌then◌else◌, List, [], ◌∷◌, ◌++◌, length, map, Option, Some, None, Ok, Err, refl, ap, subst, ◌∙◌, arith, length-append}
 use Rattle.std.specs.Prelude.{nat_lt}
 use Rattle.std.proofs.lemmas.Bool.{ltb-true}
 use Rattle.sal_mail.specs.declared.fault.Trap.{Trap}
@@ -41,21 +41,49 @@ use Rattle.sal_handler.specs.Messages as m
 use Rattle.sal_handler.specs.Statements as t
 use Rattle.sal_handler.specs.Statements.{StageSense, Sense, ChainSense, StageRun, Run, stage_run, stmt_run, exec, doing}
 use Rattle.sal_handler.specs.Loops.{LoopsStopThemselves}
+use Rattle.sal_handler.specs.Limits.{AreFew, MakesFew, HandlersMakeFew}
+use Rattle.sal_handler.specs.Handler as h
+use Rattle.sal_handler.specs.Calls.{Call}
+use Rattle.sal_handler.specs.declared.turn.Outcome.TheVariants.{Done}
+use Rattle.sal_handler.proofs.FairStatements.{set_length}
+use Rattle.std.specs.Prelude.{nat_eq, replicate}
+use Rattle.sal_value.specs.declared.name.Ual.{Ual}
+use Rattle.sal_value.specs.Names.{uan_of, ual_of}
+use Rattle.sal_ast.specs.declared.program.Program.{Program}
+use Rattle.sal_ast.specs.declared.program.Behavior.{Behavior}
+use Rattle.sal_ast.specs.Members.{Handler, handlers_of}
+use Rattle.sal_mail.specs.declared.message.Message.{Message}
+use Rattle.sal_mail.specs.declared.message.Join.{Join}
+use Rattle.sal_mail.specs.declared.effects.Actor.{Actor}
+use Rattle.sal_mail.specs.declared.effects.Creation.{Creation}
+use Rattle.sal_mail.specs.declared.effects.Effects.{Effects}
 use Rattle.sal_handler.proofs.After.{After, then_after, after_more, lift_after, when, after_is}
 use Rattle.sal_handler.specs.Fair.{EachOf}
 use Rattle.sal_handler.proofs.Induction.{IfAny, OfBehind, OfWhere, OfPart, OfExpr, of_expr, OfStage, OfStmt, of_stmt}
 
-abbrev Rise : State → State → Type 0
-Rise s t = (s.turns ≤ t.turns) × (s.turns ≤ 100000 → t.turns ≤ 100000)
+-- few messages, joins and new actors
+abbrev pub IsFew : State → Type 0
+IsFew s = AreFew s.messages s.joins s.actors s.creations
+
+-- how many of the things are there that take a number
+abbrev pub size : State → ℕ
+size s = length s.messages + (length s.joins + length s.creations)
+
+-- turns don't go back, few things stay few, and as many numbers are taken as things were made
+abbrev pub Rise : State → State → Type 0
+Rise s t = (s.turns ≤ t.turns) × (s.turns ≤ 100000 → t.turns ≤ 100000) × (IsFew s → IsFew t) × (size t + s.serial ≡ size s + t.serial)
 
 record Rises {A : Type 0} (m : Eval A) : Type 0 where
   at : (s : State) → After (λ (a : A). λ t. Rise s t) (m s)
 
-same : (s t : State) → s.turns ≡ t.turns → Rise s t
-same s t e = (omega arith, λ l. omega arith)
+stays : (s : State) → Rise s s
+stays s = (omega arith, λ l. l, λ f. f, refl)
+
+rise_then : (s t u : State) → Rise s t → Rise t u → Rise s u
+rise_then s t u p q = (omega (arith, p.0, q.0), λ l. q.1 (p.1 l), λ f. q.2 (p.2 f), omega (arith, p.3, q.3))
 
 rises_pure : {A : Type 0} (a : A) → Rises (pure a)
-rises_pure a = record { at = λ s. same s s refl }
+rises_pure a = record { at = λ s. stays s }
 
 rises_trap : (A : Type 0) (k : Trap) → Rises (trap {A = A} k)
 rises_trap A k = record { at = λ s. tt }
@@ -64,11 +92,11 @@ rises_then : {A B : Type 0} (m : Eval A) (g : A → Eval B) → Rises m → ((a 
 rises_then {A} {B} m g rm rg = record {
   at = λ s.
       then_after (λ (a : A). λ t. Rise s t) (λ (b : B). λ u. Rise s u) (m s) g (rm.at s) (λ a t p.
-      after_more (λ (b : B). λ u. Rise t u) (λ (b : B). λ u. Rise s u) (g a t) (λ b u q. (omega (arith, p.0, q.0), λ l. q.1 (p.1 l))) ((rg a).at t));
+      after_more (λ (b : B). λ u. Rise t u) (λ (b : B). λ u. Rise s u) (g a t) (λ b u q. rise_then s t u p q) ((rg a).at t));
 }
 
 rises_lift : {A : Type 0} (o : Checked A) → Rises (lift o)
-rises_lift {A} o = record { at = λ s. lift_after (λ (a : A). λ t. Rise s t) o s (λ a e. same s s refl) }
+rises_lift {A} o = record { at = λ s. lift_after (λ (a : A). λ t. Rise s t) o s (λ a e. stays s) }
 
 rises_if : {A : Type 0} (b : Bool) (m n : Eval A) → Rises m → Rises n → Rises (if b then m else n)
 rises_if true m n f g = f
@@ -105,32 +133,117 @@ perhaps_rises : (o : Option Mean) → IfAny P o → (r : Reads) → Rises (x.per
 perhaps_rises None f r = rises_pure None
 perhaps_rises (Some e) f r = rises_then (e r) _ (f r) (λ v. rises_pure (Some v))
 
-number_rises : Rises c.take_number
-number_rises = record { at = λ s. when (λ (n : ℕ). λ t. Rise s t) (nat_lt s.serial 18446744073709551615) _ _ (λ e. same s (record s { serial = s.serial + 1 }) refl) (λ e. tt) }
+-- ---- parts that make nothing, and numbers
 
-counted_rises : (n : ℕ) → Rises (c.next_number n)
-counted_rises n = record { at = λ s. when (λ (n : ℕ). λ t. Rise s t) (nat_lt n 1024) _ _ (λ e. number_rises.at s) (λ e. tt) }
+-- a state with as many turns, things and numbers taken
+record Still (s t : State) : Type 0 where
+  turns : t.turns ≡ s.turns
+  messages : t.messages ≡ s.messages
+  joins : t.joins ≡ s.joins
+  actors : t.actors ≡ s.actors
+  creations : t.creations ≡ s.creations
 
-room_rises : Rises x.room_for_actor
-room_rises = record { at = λ s. (required (nat_lt (length s.actors + length s.creations) 1024) TooManyMessages).at s }
+-- it has taken so many numbers more
+abbrev Takes : ℕ → State → State → Type 0
+Takes n s t = Still s t × (t.serial ≡ s.serial + n)
+
+still : (s : State) → Still s s
+still s = record { turns = refl; messages = refl; joins = refl; actors = refl; creations = refl }
+
+still_then : (s t u : State) → Still s t → Still t u → Still s u
+still_then s t u p q = record { turns = q.turns ∙ p.turns; messages = q.messages ∙ p.messages; joins = q.joins ∙ p.joins; actors = q.actors ∙ p.actors; creations = q.creations ∙ p.creations }
+
+record Stills {A : Type 0} (m : Eval A) : Type 0 where
+  at : (s : State) → After (λ (a : A). λ t. Takes 0 s t) (m s)
+
+stills_pure : {A : Type 0} (a : A) → Stills (pure a)
+stills_pure a = record { at = λ s. (still s, omega arith) }
+
+stills_lift : {A : Type 0} (o : Checked A) → Stills (lift o)
+stills_lift {A} o = record { at = λ s. lift_after (λ (a : A). λ t. Takes 0 s t) o s (λ a e. (still s, omega arith)) }
+
+-- behind n numbers a part that makes nothing, and then what rises from the beginning on
+still_on : {A B : Type 0} (n : ℕ) (s t : State) (m : Eval A) (g : A → Eval B) → Takes n s t → Stills m → ((a : A) (u : State) → Takes n s u → After (λ (b : B). λ v. Rise s v) (g a u)) → After (λ (b : B). λ v. Rise s v) ((m >>= g) t)
+still_on {A} {B} n s t m g p f rest = then_after (λ (a : A). λ u. Takes 0 t u) (λ (b : B). λ v. Rise s v) (m t) g (f.at t) (λ a u q. rest a u (still_then s t u p.0 q.0, omega (arith, p.1, q.1)))
+
+number_taken : (s : State) → After (λ (n : ℕ). λ t. Takes 1 s t) (c.take_number s)
+number_taken s = when (λ (n : ℕ). λ t. Takes 1 s t) (nat_lt s.serial 18446744073709551615) _ _ (λ e. (record { turns = refl; messages = refl; joins = refl; actors = refl; creations = refl }, refl)) (λ e. tt)
+
+counted : (n : ℕ) (s : State) → After (λ (k : ℕ). λ t. Takes 1 s t × (n < 1024)) (c.next_number n s)
+counted n s = when (λ (k : ℕ). λ t. Takes 1 s t × (n < 1024)) (nat_lt n 1024) _ _ (λ e. after_more (λ (k : ℕ). λ t. Takes 1 s t) (λ (k : ℕ). λ t. Takes 1 s t × (n < 1024)) (c.take_number s) (λ k t q. (q, ltb-true n 1024 e)) (number_taken s)) (λ e. tt)
+
+has_room : (s : State) → After (λ (u : Unit {0}). λ t. Takes 0 s t × (length s.actors + length s.creations < 1024)) (x.room_for_actor s)
+has_room s = at (nat_lt (length s.actors + length s.creations) 1024) refl
+  where
+    at : (b : Bool) → nat_lt (length s.actors + length s.creations) 1024 ≡ b → After (λ (u : Unit {0}). λ t. Takes 0 s t × (length s.actors + length s.creations < 1024)) (require b TooManyMessages s)
+    at true e = ((still s, omega arith), ltb-true (length s.actors + length s.creations) 1024 e)
+    at false e = tt
+
+-- ---- what is made
+
+-- turns and lists as long as these, but for one more message
+module _ (s t : State) (p : Takes 1 s t) where
+  one_message : (it : Message) → length s.messages < 1024 → Rise s (record t { messages = t.messages ++ it ∷ [] })
+  one_message it room =
+      let m : length t.messages ≡ length s.messages = ap length p.0.messages in
+      let j : length t.joins ≡ length s.joins = ap length p.0.joins in
+      let a : length t.actors ≡ length s.actors = ap length p.0.actors in
+      let y : length t.creations ≡ length s.creations = ap length p.0.creations in
+      let l : length (t.messages ++ it ∷ []) ≡ length t.messages + 1 = length-append t.messages (it ∷ []) in
+      (omega (arith, p.0.turns), λ q. omega (arith, p.0.turns, q), λ f. (omega (arith, l, m, room), omega (arith, j, f.1), omega (arith, a, y, f.2)), omega (arith, l, m, j, y, p.1))
+
+  one_join : (it : Join) → length s.joins < 1024 → Rise s (record t { places = 0; joins = t.joins ++ it ∷ [] })
+  one_join it room =
+      let m : length t.messages ≡ length s.messages = ap length p.0.messages in
+      let j : length t.joins ≡ length s.joins = ap length p.0.joins in
+      let a : length t.actors ≡ length s.actors = ap length p.0.actors in
+      let y : length t.creations ≡ length s.creations = ap length p.0.creations in
+      let l : length (t.joins ++ it ∷ []) ≡ length t.joins + 1 = length-append t.joins (it ∷ []) in
+      (omega (arith, p.0.turns), λ q. omega (arith, p.0.turns, q), λ f. (omega (arith, m, f.0), omega (arith, l, j, room), omega (arith, a, y, f.2)), omega (arith, l, m, j, y, p.1))
+
+  one_creation : (it : Creation) → length s.actors + length s.creations < 1024 → Rise s (record t { creations = t.creations ++ it ∷ [] })
+  one_creation it room =
+      let m : length t.messages ≡ length s.messages = ap length p.0.messages in
+      let j : length t.joins ≡ length s.joins = ap length p.0.joins in
+      let a : length t.actors ≡ length s.actors = ap length p.0.actors in
+      let y : length t.creations ≡ length s.creations = ap length p.0.creations in
+      let l : length (t.creations ++ it ∷ []) ≡ length t.creations + 1 = length-append t.creations (it ∷ []) in
+      (omega (arith, p.0.turns), λ q. omega (arith, p.0.turns, q), λ f. (omega (arith, m, f.0), omega (arith, j, f.1), omega (arith, a, l, y, room)), omega (arith, l, m, j, y, p.1))
+
+-- a new actor without a universal name takes no number
+one_actor : (s t : State) → Takes 0 s t → (it : Actor) → length s.actors + length s.creations < 1024 → Rise s (record t { actors = t.actors ++ it ∷ [] })
+one_actor s t p it room =
+    let m : length t.messages ≡ length s.messages = ap length p.0.messages in
+    let j : length t.joins ≡ length s.joins = ap length p.0.joins in
+    let a : length t.actors ≡ length s.actors = ap length p.0.actors in
+    let y : length t.creations ≡ length s.creations = ap length p.0.creations in
+    let l : length (t.actors ++ it ∷ []) ≡ length t.actors + 1 = length-append t.actors (it ∷ []) in
+    (omega (arith, p.0.turns), λ q. omega (arith, p.0.turns, q), λ f. (omega (arith, m, f.0), omega (arith, j, f.1), omega (arith, l, a, y, room)), omega (arith, m, j, y, p.1))
 
 name_rises : (v : Value) → Rises (x.name_from v)
 name_rises v = rises_lift _
 
-locator_rises : (o : Option Value) → Rises (x.locator_from o)
-locator_rises None = rises_pure None
-locator_rises (Some v) = rises_then (lift _) _ (rises_lift _) (λ l. rises_pure (Some l))
+locator_stills : (o : Option Value) → Stills (x.locator_from o)
+locator_stills None = stills_pure None
+locator_stills (Some v) = record { at = λ s. then_after (λ (l : Ual). λ t. Takes 0 s t) (λ (l : Option Ual). λ t. Takes 0 s t) _ (λ l. pure (Some l)) ((stills_lift (x.good_locator (ual_of (w.text_of v)))).at s) (λ l t q. q) }
 
 create_rises : (make : Make) (b : ℕ) (args : List Value) (r : Reads) → Rises (x.create make b args r)
-create_rises make b args r = rises_then x.room_for_actor _ room_rises (λ _. rises_then (lift (make b args)) _ (rises_lift (make b args)) (λ fs. record { at = λ s. same s s refl }))
+create_rises make b args r = record {
+  at = λ s.
+      then_after (λ (u : Unit {0}). λ t. Takes 0 s t × (length s.actors + length s.creations < 1024)) (λ (v : Value). λ u. Rise s u) (x.room_for_actor s) (λ _. lift (make b args) >>= x.add_actor b r) (has_room s) (λ _ t p.
+      still_on 0 s t (lift (make b args)) (x.add_actor b r) p.0 (stills_lift (make b args)) (λ fields u q. one_actor s u q _ p.1));
+}
 
 create_at_rises : (make : Make) (b : ℕ) (args : List Value) (uan : Value) (ual : Option Value) → Rises (x.create_at make b args uan ual)
-create_at_rises make b args uan ual =
-    rises_then x.room_for_actor _ room_rises (λ _.
-    rises_then (x.name_from uan) _ (name_rises uan) (λ u.
-    rises_then (x.locator_from ual) _ (locator_rises ual) (λ l.
-    rises_then (lift (make b args)) _ (rises_lift (make b args)) (λ fs.
-    rises_then c.take_number (x.add_creation b u l fs) number_rises (λ n. record { at = λ s. same s s refl })))))
+create_at_rises make b args uan ual = record {
+  at = λ s.
+      then_after (λ (u : Unit {0}). λ t. Takes 0 s t × (length s.actors + length s.creations < 1024)) (λ (v : Value). λ u. Rise s u) (x.room_for_actor s) _ (has_room s) (λ _ t p.
+      still_on 0 s t (x.name_from uan) _ p.0 (stills_lift (x.good_name (uan_of (w.text_of uan)))) (λ name t1 p1.
+      still_on 0 s t1 (x.locator_from ual) _ p1 (locator_stills ual) (λ place t2 p2.
+      still_on 0 s t2 (lift (make b args)) _ p2 (stills_lift (make b args)) (λ fields t3 p3.
+      then_after (λ (n : ℕ). λ t4. Takes 1 t3 t4) (λ (v : Value). λ u. Rise s u) (c.take_number t3) (x.add_creation b name place fields) (number_taken t3) (λ n t4 q.
+      one_creation s t4 (still_then s t3 t4 p3.0 q.0, omega (arith, p3.1, q.1)) _ p.1)))));
+}
 
 create_by_rises : (make : Option Make) (b : Option ℕ) (args : List Value) (r : Reads) → Rises (x.create_by make b args r)
 create_by_rises None b args r = rises_pure _
@@ -155,8 +268,8 @@ expr_rises (Expr-F.Str text at) p r = rises_lift _
 expr_rises (Expr-F.Bool b at) p r = rises_pure _
 expr_rises (Expr-F.Null at) p r = rises_pure _
 expr_rises (Expr-F.Me at) p r = rises_pure _
-expr_rises (Expr-F.Name name) p r = record { at = λ s. same s s refl }
-expr_rises (Expr-F.Own at name) p r = record { at = λ s. same s s refl }
+expr_rises (Expr-F.Name name) p r = record { at = λ s. stays s }
+expr_rises (Expr-F.Own at name) p r = record { at = λ s. stays s }
 expr_rises (Expr-F.Paren at e) p r = p r
 expr_rises (Expr-F.Neg at e) p r = rises_then (e r) _ (p r) (λ v. rises_pure _)
 expr_rises (Expr-F.Not at e) p r = rises_then (e r) _ (p r) (λ v. rises_pure _)
@@ -198,25 +311,27 @@ delays_rise [] last r = rises_pure last
 delays_rise (property.Delay at time ∷ more) last r = rises_then (eval time r) _ (eval_rises time r) (λ v. delays_rise more (Some v) r)
 delays_rise (property.WaitFor at names ∷ more) last r = delays_rise more last r
 
-place_rises : Rises c.next_place
-place_rises = record { at = λ s. when (λ (n : ℕ). λ t. Rise s t) (nat_lt s.places 4096) _ _ (λ e. same s (record s { places = s.places + 1 }) refl) (λ e. tt) }
+place_stills : Stills c.next_place
+place_stills = record { at = λ s. when (λ (n : ℕ). λ t. Takes 0 s t) (nat_lt s.places 4096) _ _ (λ e. (record { turns = refl; messages = refl; joins = refl; actors = refl; creations = refl }, omega arith)) (λ e. tt) }
 
-owed_place_rises : (within : List Inside) (r : Reads) → Rises (m.owed_place within r)
-owed_place_rises [] r = rises_pure _
-owed_place_rises (i ∷ is) r = rises_then c.next_place _ place_rises (λ n. rises_pure _)
+owed_place_stills : (within : List Inside) (r : Reads) → Stills (m.owed_place within r)
+owed_place_stills [] r = stills_pure _
+owed_place_stills (i ∷ is) r = record { at = λ s. then_after (λ (n : ℕ). λ t. Takes 0 s t) (λ (o : Reply). λ t. Takes 0 s t) (c.next_place s) _ (place_stills.at s) (λ n t q. q) }
 
-owed_rises : (last : End) (r : Reads) (n : ℕ) → Rises (m.owed last r n)
-owed_rises end.Nobody r n = rises_pure _
-owed_rises end.Token r n = rises_pure _
-owed_rises end.Place r n = owed_place_rises r.within r
-owed_rises end.Caller r n = rises_pure _
+owed_stills : (last : End) (r : Reads) (n : ℕ) → Stills (m.owed last r n)
+owed_stills end.Nobody r n = stills_pure _
+owed_stills end.Token r n = stills_pure _
+owed_stills end.Place r n = owed_place_stills r.within r
+owed_stills end.Caller r n = stills_pure _
 
 addressed_rises : (d : Send) (r : Reads) (before : Option ℕ) (last : End) (to : Option Target) (args : List Piece) (delay : Option ℕ) → Rises (m.addressed d r before last to args delay)
 addressed_rises d r before last None args delay = rises_trap ℕ _
 addressed_rises d r before last (Some to) args None = rises_trap ℕ _
-addressed_rises d r before last (Some to) args (Some delay) =
-    rises_then m.count_message _ (record { at = λ s. (counted_rises (length s.messages)).at s }) (λ n.
-    rises_then (m.owed last r n) (m.sent d r before to args delay n) (owed_rises last r n) (λ owes. record { at = λ s. same s s refl }))
+addressed_rises d r before last (Some to) args (Some delay) = record {
+  at = λ s.
+      then_after (λ (n : ℕ). λ t. Takes 1 s t × (length s.messages < 1024)) (λ (n : ℕ). λ u. Rise s u) (m.count_message s) (λ n. m.owed last r n >>= (λ owes. m.sent d r before to args delay n owes)) (counted (length s.messages) s) (λ n t p.
+      still_on 1 s t (m.owed last r n) (λ owes. m.sent d r before to args delay n owes) p.0 (owed_stills last r n) (λ owes u q. one_message s u q _ p.1));
+}
 
 message_rises : (d : Send) (r : Reads) (before : Option ℕ) (last : End) → Rises (m.message d r before last)
 unfolding m.message
@@ -242,21 +357,21 @@ first_value_rises None v r = rises_pure v
 first_value_rises (Some e) v r = eval_rises e r
 
 declared_rises : (d : Declare) (r : Reads) → Rises (t.declared d r)
-declared_rises d r = rises_then (t.first_value d.init _ r) _ (first_value_rises d.init _ r) (λ v. record { at = λ s. same s s refl })
+declared_rises d r = rises_then (t.first_value d.init _ r) _ (first_value_rises d.init _ r) (λ v. record { at = λ s. stays s })
 
 set_field_rises : (o : Option ℕ) (is : List ℤ) (v : Value) → Rises (c.set_field o is v)
-set_field_rises None is v = record { at = λ s. same s s refl }
+set_field_rises None is v = record { at = λ s. stays s }
 set_field_rises (Some i) is v = record { at = λ s. at s (w.assigned (w.item_at s.fields i) is v) }
   where
     at : (s : State) (o : Checked Value) → After (λ (u : Unit {0}). λ t. Rise s t) (and_then o (λ w. Ok (tt, record s { fields = slice_set s.fields i w })))
-    at s (Ok w) = same s s refl
+    at s (Ok w) = stays s
     at s (Err k) = tt
 
 set_local_rises : (i : ℕ) (is : List ℤ) (v : Value) → Rises (c.set_local i is v)
 set_local_rises i is v = record { at = λ s. at s (c.assigned_local (slice_get s.locals i) s.locals i is v) }
   where
     at : (s : State) (o : Checked (List Local)) → After (λ (u : Unit {0}). λ t. Rise s t) (and_then o (λ ls. Ok (tt, record s { locals = ls })))
-    at s (Ok ls) = same s s refl
+    at s (Ok ls) = stays s
     at s (Err k) = tt
 
 set_found_rises : (o : Option ℕ) (name : List ℕ) (r : Reads) (is : List ℤ) (v : Value) → Rises (c.set_found o name r is v)
@@ -286,7 +401,7 @@ truth_rises : (e : Expr) (r : Reads) → Rises (t.truth e r)
 truth_rises e r = rises_then (eval e r) _ (eval_rises e r) (λ v. rises_pure _)
 
 turn_rises : Rises c.begin_turn
-turn_rises = record { at = λ s. when (λ (u : Unit {0}). λ t. Rise s t) (nat_lt s.turns 100000) _ _ (λ e. let low : s.turns < 100000 = ltb-true s.turns 100000 e in (omega arith, λ l. omega arith)) (λ e. tt) }
+turn_rises = record { at = λ s. when (λ (u : Unit {0}). λ t. Rise s t) (nat_lt s.turns 100000) _ _ (λ e. let low : s.turns < 100000 = ltb-true s.turns 100000 e in (omega arith, λ l. omega arith, λ f. f, refl)) (λ e. tt) }
 
 looped_rises : (n : ℕ) (test : Eval Bool) (body : Eval Flow) → Rises test → Rises body → Rises (t.looped n test body)
 unfolding t.looped
@@ -328,23 +443,33 @@ ended_rises (Some at) gs p r = passed_rises r.within gs p r
 
 declare_reply_rises : (name : List ℕ) (o : Option ℕ) → Rises (t.declare_reply name o)
 declare_reply_rises name None = rises_pure tt
-declare_reply_rises name (Some n) = record { at = λ s. same s s refl }
+declare_reply_rises name (Some n) = record { at = λ s. stays s }
 
 named_rises : (name : List ℕ) (gs : List StageRun) → EachOf G gs → (r : Reads) → Rises (t.named name gs r)
 named_rises name gs p r = rises_then _ _ (rises_then (t.chain gs r None end.Token) (t.declare_reply name) (chain_rises gs p r None end.Token) (declare_reply_rises name)) (λ _. rises_pure Next)
 
-joined_rises : (void : Bool) (block : Run) → T block → (r : Reads) (before : Option ℕ) (n : ℕ) (owes : Reply) → Rises (t.joined void block r before n owes)
-joined_rises void block p r before n owes = record {
-  at = λ s.
-      then_after (λ (f : Flow). λ b. Rise s b) (λ (k : ℕ). λ b. Rise s b) ((t.opened n void owes >> block (t.within_join n before r)) s) (λ f b. Ok (n, t.closed (length s.joins) n void owes s.places b))
-      ((rises_then (t.opened n void owes) _ (record { at = λ s. same s s refl }) (λ _. p (t.within_join n before r))).at s) (λ f b q. q);
-}
+-- the join n stands open
+abbrev with_open : ℕ → Bool → Reply → State → State
+with_open n void owes u = record u { places = 0; joins = u.joins ++ record { number = n; places = []; void = void; reply = owes } ∷ [] }
+
+-- a join that is closed stands where it stood
+closed_rises : (i n : ℕ) (void : Bool) (owes : Reply) (places : ℕ) (b : State) → Rise b (t.closed i n void owes places b)
+closed_rises i n void owes places b =
+    let it : Join = record { number = n; places = replicate b.places None; void = void; reply = owes } in
+    let l : length (slice_set b.joins i it) ≡ length b.joins = set_length b.joins i it in
+    (omega arith, λ q. q, λ f. (f.0, omega (arith, l, f.1), f.2), omega (arith, l))
+
+joined_rises : (void : Bool) (block : Run) → T block → (r : Reads) (before : Option ℕ) (n : ℕ) (owes : Reply) (s u : State) → Takes 1 s u → length s.joins < 1024 → After (λ (k : ℕ). λ v. Rise s v) (t.joined void block r before n owes u)
+joined_rises void block p r before n owes s u q room =
+    then_after (λ (f : Flow). λ b. Rise s b) (λ (k : ℕ). λ v. Rise s v) ((t.opened n void owes >> block (t.within_join n before r)) u) (λ f b. Ok (n, t.closed (length u.joins) n void owes u.places b))
+    (after_more (λ (f : Flow). λ b. Rise (with_open n void owes u) b) (λ (f : Flow). λ b. Rise s b) (block (t.within_join n before r) (with_open n void owes u)) (λ f b z. rise_then s (with_open n void owes u) b (one_join s u q _ room) z) ((p (t.within_join n before r)).at (with_open n void owes u)))
+    (λ f b z. rise_then s b (t.closed (length u.joins) n void owes u.places b) z (closed_rises (length u.joins) n void owes u.places b))
 
 join_rises : (void : State → Bool) (block : Run) → T block → (r : Reads) → (before : Option ℕ) (last : End) → Rises (t.join void block r before last)
 join_rises void block p r before last = record {
   at = λ s.
-      (rises_then t.count_join _ (record { at = λ s. (counted_rises (length s.joins)).at s }) (λ n.
-      rises_then (m.owed last r n) _ (owed_rises last r n) (λ owes. joined_rises (void s) block p r before n owes))).at s;
+      then_after (λ (n : ℕ). λ t. Takes 1 s t × (length s.joins < 1024)) (λ (n : ℕ). λ u. Rise s u) (t.count_join s) (λ n. m.owed last r n >>= (λ owes. t.joined (void s) block r before n owes)) (counted (length s.joins) s) (λ n u q.
+      still_on 1 s u (m.owed last r n) (λ owes. t.joined (void s) block r before n owes) q.0 (owed_stills last r n) (λ owes v z. joined_rises (void s) block p r before n owes s v z q.1));
 }
 
 abbrev OfG : StageSense → Type 0
@@ -436,3 +561,51 @@ loops_stop = record {
   for_loops = λ test next body r s more low. unbound (t.goes_on test r) (t.round (exec body r) (t.stepped next r)) (goes_on_rises test r) (round_rises (exec body r) (t.stepped next r) (exec_rises body r) (stepped_rises next r)) t.tests more s low (omega arith);
   turns = λ body r s u f low e. (after_is (λ (f : Flow). λ u. Rise s u) (t.block body r s) f u ((block_rises body r).at s) e).1 low;
 }
+
+-- ---- what a handler makes
+
+module _ (p : Program) (c : Call) where
+  abbrev MadeIn : Checked Effects → Type 0
+  MadeIn (Ok e) = MakesFew c e
+  MadeIn (Err k) = Unit {0}
+
+  nothing_made : MakesFew c (h.unchanged c)
+  nothing_made = record { few = (omega arith, omega arith, omega arith); serial = omega arith }
+
+  ran_made : (o : Option Handler) → MadeIn (h.ran o p c)
+  ran_made None = nothing_made
+  ran_made (Some y) = at (t.block y.body (h.reads p c) u) ((block_rises y.body (h.reads p c)).at u)
+    where
+      u : State
+      u = h.started (h.parameters p.behaviors y.params c.args) c.fields c.serial
+
+      at : (o : Checked (Flow × State)) → After (λ (f : Flow). λ t. Rise u t) o → MadeIn (and_then o (λ z. Ok (h.effects_of z.0 z.1 c.fresh)))
+      at (Ok z) r = record { few = r.2 (omega arith, omega arith, omega arith); serial = omega (arith, r.3) }
+      at (Err k) r = tt
+
+  ran_in_made : (o : Option Behavior) → MadeIn (h.ran_in o p c)
+  ran_in_made None = nothing_made
+  ran_in_made (Some b) = ran_made (slice_get (handlers_of b) c.handler)
+
+  moved_made : (o : Option Ual) → MadeIn (h.moved o c)
+  moved_made None = tt
+  moved_made (Some l) = nothing_made
+
+  run_made : MadeIn (h.run p c)
+  run_made = late (nat_lt 18446744073709547520 c.serial)
+    where
+      here : (b : Bool) → MadeIn (if b then h.migrated c else h.ran_in (slice_get p.behaviors c.behavior) p c)
+      here true = moved_made (ual_of (h.first_text c.args))
+      here false = ran_in_made (slice_get p.behaviors c.behavior)
+
+      late : (b : Bool) → MadeIn (if b then Err TooManyMessages else h.ran_from p c)
+      late true = tt
+      late false = here (nat_eq c.handler 65535)
+
+  done_made : (o : Checked Effects) (e : Effects) → MadeIn o → h.outcome_of o ≡ Done e → MakesFew c e
+  done_made (Ok y) e l is = let same : y ≡ e = cc in subst (MakesFew c) same l
+  done_made (Err k) e l is = absurd cc
+
+pub handlers_few : HandlersMakeFew
+unfolding h.handle
+handlers_few p c e is = done_made p c (h.run p c) e (run_made p c) is

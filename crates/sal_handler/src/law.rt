@@ -1,4 +1,5 @@
 ghost use Rattle.sal_handler.specs.Fair.{HandlersAreFair, HandlersAreOrderly};
+ghost use Rattle.sal_handler.specs.Limits.{HandlersMakeFew};
 ghost use Rattle.sal_handler.specs.Loops.{LoopsStopThemselves};
 ghost use Rattle.sal_handler.specs.Prints.{ChainsOfPrintsAreSent};
 
@@ -22,4 +23,10 @@ pub fn handlers_are_orderly()
 /// They are fair, where the call's values are legal: then all that they leave is legal, too.
 pub fn handlers_are_fair()
     ensures { HandlersAreFair }
+{}
+
+/// A handler makes at most 1,024 messages, joins and new actors, and the numbers that it takes have no
+/// gaps.
+pub fn handlers_make_few()
+    ensures { HandlersMakeFew }
 {}

@@ -25,7 +25,10 @@ mod waiting;
 
 pub use actor_map::ActorState;
 pub use config::Config;
-pub use law::{chains_of_prints_run, replies_commute};
+pub use law::{
+    chains_of_prints_run, joins_resolve_once, messages_are_taken_once, replies_commute,
+    steps_answer_once,
+};
 pub use player::play;
 pub use run::{Met, Run};
 pub use state::{PlayFault, Setup, Step};
