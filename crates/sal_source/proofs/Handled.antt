@@ -1,11 +1,10 @@
 -- What the parts of a step make of a configuration.
-use Rattle.std.proofs.Common.{◌≡◌, ℕ, Bool, true, false, ◌&&◌, not, List, [], ◌++◌, Option, Some, None, Ok, refl, sym, ap, subst, ◌∙◌, Result}
+use Rattle.std.proofs.Common.{◌≡◌, ℕ, Bool, true, false, ◌&&◌, not, List, [], ◌++◌, Some, None, Ok, refl, sym, ap, subst, ◌∙◌}
 use Rattle.std.specs.Prelude.{reverse, if◌then◌else◌}
 use Rattle.std.specs.FinMap as fm
 use Rattle.sal_value.specs.declared.name.Name.{Name}
 use Rattle.sal_value.specs.declared.name.Authority.{Authority}
 use Rattle.sal_value.specs.declared.value.Value.{Value}
-use Rattle.sal_value.specs.declared.text.NoMemory.{NoMemory}
 use Rattle.sal_mail.specs.declared.message.Message.{Message}
 use Rattle.sal_mail.specs.declared.message.Join.{Join}
 use Rattle.sal_mail.specs.declared.message.Reply.{Reply}
@@ -25,11 +24,9 @@ use Rattle.sal_source.specs.Keys.{name_key, made_key, actor_key}
 use Rattle.sal_source.specs.Configuration.{Waiting, Configuration}
 use Rattle.sal_source.specs.Give.{settled, told_after, give_all}
 use Rattle.sal_source.specs.Step as s
-use Rattle.sal_source.specs.Changes.{Takes, OpensAll, Settles}
+use Rattle.sal_source.specs.Changes.{OpensAll, Settles}
 use Rattle.sal_source.specs.Meeting.{CalledBy, Enters, IsChange, Makes, After, without, committed}
-
-some_is : {A : Type 0} {a b : A} → Some a ≡ Some b → a ≡ b
-some_is e = cc
+use Rattle.sal_source.proofs.Tables.{some_is}
 
 -- ---- what waits
 

@@ -6,9 +6,6 @@ use Rattle.sal_source.specs.Table.{Words, words_eq, Table, write, table_of}
 use Rattle.sal_source.specs.Listed.{found, IsFirst, Finds, AreDistinct}
 use Rattle.sal_source.proofs.Tables.{same_words, same_table, get-write, IsFirst-key, IsFirst-get, IsFirst-table, none-table, Finds-first, AreDistinct-set, AreDistinct-push, AreDistinct-remove, table-set, table-push, table-remove}
 
-some_is : {A : Type 0} {a b : A} → Some a ≡ Some b → a ≡ b
-some_is e = cc
-
 pub write_nothing : {X : Type 0} (t : Table X) (k : Words) → fm.get t k ≡ None → write t k None ≡ t
 write_nothing t k none = same_table _ _ (λ q. get-write t k None q ∙ at q (words_eq q k) refl)
   where

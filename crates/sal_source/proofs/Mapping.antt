@@ -11,11 +11,8 @@ use Rattle.std.specs.FinMap as fm
 use Rattle.std.specs.FinMap.Entries as es
 use Rattle.sal_source.specs.Table.{Words, words_cmp, words_eq, Table, table_of, write}
 use Rattle.sal_source.specs.Listed.{found, IsSorted, AreDistinct}
-use Rattle.sal_source.proofs.Tables.{same_words, words_refl, same_table, get-write, get-table_of}
+use Rattle.sal_source.proofs.Tables.{some_is, same_words, words_refl, same_table, get-write, get-table_of}
 use Rattle.sal_source.proofs.Sorted.{both, lt, apart_more}
-
-some_is : {A : Type 0} {a b : A} → Some a ≡ Some b → a ≡ b
-some_is e = cc
 
 module _ {X : Type 0} where
   -- what was at the key before is written again

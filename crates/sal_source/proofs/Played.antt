@@ -1,20 +1,15 @@
 -- Steps one after another.
-use Rattle.std.proofs.Common.{◌≡◌, ℕ, zero, suc, ◌+◌, Bool, true, false, List, [], ◌∷◌, take, Option, Some, None, Ok, refl, sym, ap, ◌∙◌, add-one}
+use Rattle.std.proofs.Common.{◌≡◌, ℕ, zero, suc, ◌+◌, Bool, true, false, List, [], ◌∷◌, take, Option, Some, None, Ok, refl, ap, ◌∙◌, add-one}
 use Rattle.std.specs.Prelude.{slice_get, option_and_then}
-use Rattle.sal_value.specs.declared.name.Name.{Name}
 use Rattle.sal_mail.specs.declared.message.Message.{Message}
-use Rattle.sal_mail.specs.declared.effects.Actor.{Actor}
 use Rattle.sal_mail.specs.Message.{is_ready}
-use Rattle.sal_handler.specs.Calls.{Call, Meaning}
-use Rattle.sal_handler.specs.declared.turn.Outcome.{Outcome}
+use Rattle.sal_handler.specs.Calls.{Meaning}
 use Rattle.sal_source.specs.declared.state.Setup.{Setup}
 use Rattle.sal_source.specs.declared.state.Step.{Step}
 use Rattle.sal_source.specs.Configuration.{Configuration}
-use Rattle.sal_source.specs.Step.{step, ready_only, handle_step, call_of, after_outcome, drop_message}
+use Rattle.sal_source.specs.Step.{step, ready_only}
 use Rattle.sal_source.specs.Run.{steps}
 use Rattle.sal_source.specs.Changes.{Takes}
-use Rattle.sal_source.specs.Meeting.{CalledBy}
-use Rattle.sal_source.proofs.Handled.{handle_called}
 
 pub ready : (o : Option Message) (m : Message) (f : Message → Option Configuration) → o ≡ Some m → is_ready m ≡ true → ready_only o f ≡ f m
 ready o m f e r = rw (e, r) refl

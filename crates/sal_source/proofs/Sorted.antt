@@ -8,10 +8,7 @@ use Rattle.std.specs.Cmp.{tied_itself}
 use Rattle.std.specs.FinMap.Entries as es
 use Rattle.sal_source.specs.Table.{Words, words_cmp, words_eq}
 use Rattle.sal_source.specs.Listed.{found, IsFirst, IsSorted, SplitsAt}
-use Rattle.sal_source.proofs.Tables.{words_tells, words_refl, same_words}
-
-some_is : {A : Type 0} {a b : A} → Some a ≡ Some b → a ≡ b
-some_is e = cc
+use Rattle.sal_source.proofs.Tables.{some_is, words_tells, words_refl, same_words}
 
 none_some : {A : Type 0} {a : A} → None ≡ Some a → ⊥
 none_some e = absurd (cc)

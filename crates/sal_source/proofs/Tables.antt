@@ -10,6 +10,9 @@ use Rattle.std.specs.FinMap.Entries as es
 use Rattle.sal_source.specs.Table.{Words, words_cmp, words_eq, Table, write, table_map, table_of}
 use Rattle.sal_source.specs.Listed.{found, IsFirst, Finds, AreDistinct}
 
+pub some_is : {A : Type 0} {a b : A} → Some a ≡ Some b → a ≡ b
+some_is e = cc
+
 pub words_anti : fm.IsAntisymmetric words_cmp
 words_anti = fm.slice_cmp-IsAntisymmetric fm.nat_cmp-IsAntisymmetric
 
@@ -244,9 +247,6 @@ module _ {X : Type 0} (key : X → Words) where
 
   first_is : (q : Words) (xs : List X) (i : ℕ) (y z : X) → IsFirst key q xs i y → slice_get xs i ≡ Some z → IsFirst key q xs i z
   first_is q xs i y z h e = let s : y ≡ z = some_is (sym (IsFirst-get q xs i y h) ∙ e) in let P : X → Type 0 = λ w. IsFirst key q xs i w in subst P s h
-    where
-      some_is : {A : Type 0} {a b : A} → Some a ≡ Some b → a ≡ b
-      some_is e = cc
 
   pub Finds-first : (q : Words) (xs : List X) (i : ℕ) (z : X) → Finds key q xs (Some i) → slice_get xs i ≡ Some z → IsFirst key q xs i z
   Finds-first q xs i z h e = first_is q xs i h.0 z h.1 e
