@@ -1,6 +1,6 @@
 //! The actors of a run, found by their names.
 
-ghost use Rattle.std.specs.Prelude.{◌≡◌, ◌↔◌, IsTrue, true, Some, None, IfSome, IfOk, OnOk, OnErr, map};
+ghost use Rattle.std.specs.Prelude.{◌≡◌, true, Some, None, IfSome, IfOk, OnOk, OnErr, map};
 ghost use Rattle.std.specs.Option.{option_map};
 ghost use Rattle.std.specs.FinMap as fm;
 ghost use Rattle.sal_source.specs.Table.{write};

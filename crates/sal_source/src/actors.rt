@@ -1,6 +1,6 @@
 //! Actors with their next numbers, in a list in the order of their names.
 
-ghost use Rattle.std.specs.Prelude.{◌≡◌, length, is_some};
+ghost use Rattle.std.specs.Prelude.{◌≡◌, is_some};
 ghost use Rattle.std.specs.FinMap as fm;
 ghost use Rattle.sal_value.specs.declared.name.Name.TheVariants as names;
 ghost use Rattle.sal_source.specs.Table.{table_of, words_cmp};

@@ -1,6 +1,6 @@
 //! Names for new actors.
 
-ghost use Rattle.std.specs.Prelude.{◌≡◌, not};
+ghost use Rattle.std.specs.Prelude.{◌≡◌};
 ghost use Rattle.std.specs.List.{list_all, list_any};
 ghost use Rattle.sal_source.specs.Table.{keys_of, words_eq};
 ghost use Rattle.sal_source.specs.Keys.{name_key};

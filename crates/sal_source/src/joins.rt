@@ -1,6 +1,6 @@
 //! Joins: their places, and what a full one replies.
 
-ghost use Rattle.std.specs.Prelude.{◌≡◌, ◌++◌, ◌∷◌, [], ◌<◌, length, slice_get, is_some, IfOk, OnOk};
+ghost use Rattle.std.specs.Prelude.{◌≡◌, ◌++◌, ◌<◌, length, slice_get, is_some, IfOk, OnOk};
 ghost use Rattle.std.specs.List.{list_all};
 ghost use Rattle.sal_mail.specs.Message as spec;
 ghost use Rattle.std.specs.Bool.{OnTrue};

@@ -1,10 +1,9 @@
 //! Runs, step by step.
 
-ghost use Rattle.std.specs.Prelude.{◌≡◌, ◌↔◌, IsTrue, [], true, IfOk, IfSome, OnOk, OnErr};
-ghost use Rattle.std.specs.Option.{option_copied};
+ghost use Rattle.std.specs.Prelude.{◌≡◌, [], true, IfOk, IfSome, OnOk, OnErr};
 ghost use Rattle.std.specs.FinMap as fm;
-ghost use Rattle.sal_source.specs.Table.{keys_of, write};
-ghost use Rattle.sal_source.specs.Keys.{name_key, actor_key};
+ghost use Rattle.sal_source.specs.Table.{keys_of};
+ghost use Rattle.sal_source.specs.Keys.{actor_key};
 ghost use Rattle.sal_source.specs.Configuration.{first_of, act_message};
 ghost use Rattle.sal_source.specs.Give.{give};
 ghost use Rattle.sal_source.specs.Step as spec;
@@ -20,7 +19,6 @@ use crate::creations::Creations;
 use crate::fresh::are_fresh;
 use crate::posts::{fits_post, post_message};
 use crate::services::is_served;
-use crate::state::Setup;
 use crate::waiting::Waiting;
 use crate::{copies, messages, printing};
 use sal_handler::{Began, Outcome};

@@ -1,7 +1,6 @@
 //! Naming services, by host and port.
 
 ghost use Rattle.std.specs.Prelude.{◌≡◌};
-ghost use Rattle.std.specs.List.{list_any};
 ghost use Rattle.sal_source.specs.Step as spec;
 
 use sal_value::{Authority, Uan};

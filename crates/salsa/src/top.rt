@@ -1,6 +1,6 @@
 //! The top call.
 ghost use Rattle.std.specs.Prelude.{◌≡◌, ◌≢◌, None};
-ghost use Rattle.salsa.specs.Top.{run_name, status_line, OnRunName, Puts, RunCause, Usage};
+ghost use Rattle.salsa.specs.Top.{run_name, OnRunName, Puts, RunCause, Usage};
 
 use crate::judge::judged;
 use crate::outside::{Failed, Files, OutsideFault, Sink};
