@@ -23,7 +23,7 @@ use Rattle.sal_source.specs.Keys.{made_key, message_key, actor_key}
 use Rattle.sal_source.specs.Configuration.{Configuration, start_actor, act_message, first_of, first}
 use Rattle.sal_source.specs.Step.{step}
 use Rattle.sal_source.specs.Run.{steps}
-use Rattle.sal_source.specs.Once.{one_if, next_number, takes, is_open, MessagesAreTakenOnce, JoinsResolveOnce, StepsAnswerOnce}
+use Rattle.sal_source.specs.Once.{one_if, next_number, takes, is_open, HasResolved, MessagesAreTakenOnce, JoinsResolveOnce, StepsAnswerOnce}
 use Rattle.sal_source.proofs.Tables.{words_anti, words_tells, get-table_of}
 use Rattle.sal_source.proofs.Given.{contains_keys, keys_none}
 use Rattle.sal_source.proofs.Once.{Each, each_none}
@@ -155,13 +155,14 @@ module _ (p : Meaning) (setup : Setup) (sizes : List ℕ) (orderly : (call : Cal
           let was : is_open owner number c ≡ true = (k.goes.waits.joins.at (made_key owner number) x.0 x.1).there owner number refl l in
           absurd cc
 
-  closed : (ss : List Step) (c end : Configuration) → KeptIn c → steps p setup c ss ≡ Some end → (owner : Name) (number : ℕ) → number < next c owner → is_open owner number c ≡ false → is_open owner number end ≡ false
+  closed : (ss : List Step) (c end : Configuration) → KeptIn c → steps p setup c ss ≡ Some end → (owner : Name) (number : ℕ) → HasResolved owner number c → HasResolved owner number end
   unfolding steps
-  closed [] c end k e owner number l shut = let same : c ≡ end = cc in subst (λ z. is_open owner number z ≡ false) same shut
-  closed (s ∷ ss) c end k e owner number l shut =
+  closed [] c end k e owner number h = let same : c ≡ end = cc in subst (HasResolved owner number) same h
+  closed (s ∷ ss) c end k e owner number h =
       let z = led s ss c end e in
       let one = one_step c k p sizes orderly setup s z.next z.is in
-      closed ss z.next end one.keeps.kept z.rest owner number (omega (arith, l, one.keeps.goes.grows owner)) (closed_once c z.next one.keeps owner number l shut)
+      let l = h.0 in
+      closed ss z.next end one.keeps.kept z.rest owner number (omega (arith, l, one.keeps.goes.grows owner), closed_once c z.next one.keeps owner number h.0 h.1)
 
   -- a run goes on from where its front ends
   parted : (ss more : List Step) (c mid end : Configuration) → steps p setup c ss ≡ Some mid → steps p setup c (ss ++ more) ≡ Some end → steps p setup mid more ≡ Some end
@@ -179,11 +180,11 @@ pub taken_once : MessagesAreTakenOnce
 taken_once q setup ss end e maker serial = (counted (meaning_of q) setup (program_sizes q) (handlers_orderly q) ss (first (meaning_of q) setup) end (kept_first setup.words (meaning_of q).begun) e maker serial).once
 
 pub resolve_once : JoinsResolveOnce
-resolve_once q setup ss more c d e f owner number l shut =
+resolve_once q setup ss more c d e f owner number h =
     let p = meaning_of q in
     let start = kept_first setup.words p.begun in
     let here = along p setup (program_sizes q) (handlers_orderly q) ss (first p setup) c start e in
-    closed p setup (program_sizes q) (handlers_orderly q) more c d here (parted p setup (program_sizes q) (handlers_orderly q) ss more (first p setup) c d e f) owner number l shut
+    closed p setup (program_sizes q) (handlers_orderly q) more c d here (parted p setup (program_sizes q) (handlers_orderly q) ss more (first p setup) c d e f) owner number h
 
 pub answer_once : StepsAnswerOnce
 answer_once q setup ss one c d e is =

@@ -51,11 +51,15 @@ next_number actors posted (Outside n) = one_if (nat_le n posted)
 abbrev pub is_open : Name → ℕ → Configuration → Bool
 is_open owner number c = fm.contains_key c.waiting.joins (made_key owner number)
 
--- Once a join's number is taken and the join isn't open, it has resolved, and is never open again.
+-- the number is taken, and no join is open under it: if it is a join's, the join has resolved
+abbrev pub HasResolved : Name → ℕ → Configuration → Type 0
+HasResolved owner number c = (number < next_number c.actors c.posted owner) × (is_open owner number c ≡ false)
+
+-- A join that has resolved has done so for ever, however the run goes on: so none resolves twice.
 abbrev pub JoinsResolveOnce : Type 0
 JoinsResolveOnce =
     (p : Program) (setup : Setup) (ss more : List Step) (c d : Configuration) → play p setup ss ≡ Some c → play p setup (ss ++ more) ≡ Some d
-    → (owner : Name) (number : ℕ) → number < next_number c.actors c.posted owner → is_open owner number c ≡ false → is_open owner number d ≡ false
+    → (owner : Name) (number : ℕ) → HasResolved owner number c → HasResolved owner number d
 
 -- ---- answers
 

@@ -150,7 +150,7 @@ abbrev pub answered : Answer → Reply → List Given
 answered (answer.Value value) reply = (reply, value) ∷ []
 answered answer.Passed reply = []
 
--- the arrays of the full joins, in the order of their numbers
+-- the arrays of the full joins, in the order of the list, which is that of their numbers
 abbrev pub arrays : List Join → List Given
 arrays [] = []
 arrays (j ∷ js) = array_of j ++ arrays js

@@ -82,6 +82,7 @@ fn restore(states: &mut States, name: Name, old: Option<ActorState>)
 {
     match old {
         Some(state) => {
+            // The name is there, so this takes no memory and can't fail.
             let _ = put(states, name, state);
         }
         None => {
@@ -180,6 +181,7 @@ impl ActorMap {
     {
         let (actor, next) = actor;
         let (name, state) = parts(actor, next);
+        // The name is there, so this takes no memory and can't fail.
         let _ = put(&mut self.states, name, state);
     }
 

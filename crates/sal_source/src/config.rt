@@ -81,7 +81,8 @@ impl Config {
         (messages, self.creations.count(), joins)
     }
 
-    /// Whether no step but a post is possible, whatever the program.
+    /// Whether no step but a post is possible, whatever the program. False where one is possible in
+    /// some program.
     pub fn is_final(&self, setup: &Setup) -> bool
         ensures { IsTrue result ↔ spec.IsAtEnd setup.now self.now }
     {

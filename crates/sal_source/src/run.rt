@@ -368,8 +368,8 @@ impl Run {
         }
     }
 
-    /// The step of a message that its actor doesn't understand.
-    pub fn no_handler(
+    /// The step of a message of which `meets` says that its actor doesn't understand it.
+    pub(crate) fn no_handler(
         &mut self,
         alloc: Global,
         maker: &Name,

@@ -149,6 +149,37 @@ fn a_join_keeps_each_value_at_its_place(rt: HostRuntime) -> Result<(), Fail> {
     Ok(())
 }
 
+fn gives(alloc: Global, run: &mut Run, place: u32, value: i32) -> Result<(), NoMemory> {
+    let reply = Reply::Place(Name::Anon(0, 0), 0, place);
+    run.give(alloc, reply, Value::Int(value))
+}
+
+/// The places 2, 1 and 0 get 3, 2 and 1.
+fn gives_three(alloc: Global, run: &mut Run) -> Result<(), NoMemory> {
+    for (place, value) in [(2, 3), (1, 2), (0, 1)] {
+        gives(alloc, run, place, value)?;
+    }
+    Ok(())
+}
+
+/// The run after three replies and one more for place 2, whose join has resolved.
+fn given_again(alloc: Global) -> Result<Run, NoMemory> {
+    let mut run = started(alloc)?;
+    opens_join(alloc, &mut run)?;
+    gives_three(alloc, &mut run)?;
+    gives(alloc, &mut run, 2, 9)?;
+    Ok(run)
+}
+
+#[test]
+fn a_reply_to_a_resolved_join_changes_nothing(rt: HostRuntime) -> Result<(), Fail> {
+    let config = given_again(rt.alloc())?.config(rt.alloc())?;
+    assert!(rt; is_answered(rt.alloc(), &config)?);
+    assert_eq!(rt; config.answers().len(), 1);
+    assert_eq!(rt; config.pending(), (4, 0, 0));
+    Ok(())
+}
+
 #[test]
 fn a_trap_leaves_its_fault_alone(rt: HostRuntime) -> Result<(), Fail> {
     let mut run = started(rt.alloc())?;
