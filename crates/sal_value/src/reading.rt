@@ -8,7 +8,8 @@ ghost use Rattle.std.specs.Str.{IsAscii};
 ghost use Rattle.sal_value.specs.Names.{lowered, is_host_byte, is_host as good_host, is_path_byte, is_path as good_path, is_uan_path, is_ual_path, NonePass, FirstPasses, ends_host, is_colon, is_slash, Parts, Written, any_path, IsPort, Refused, ReadsUan, ReadsUal};
 
 use crate::name::{NameFault, Ual, Uan};
-use crate::text::{NoMemory, Text};
+use crate::no_memory::NoMemory;
+use crate::text::Text;
 use std::alloc::Global;
 
 /// What stands behind a scheme: the port with its `:`, the path with its `/`.
