@@ -4,6 +4,7 @@
 mod address;
 mod boxed;
 mod clone_in;
+mod constants;
 mod decode;
 mod encode;
 mod fields;
@@ -19,6 +20,7 @@ mod value;
 
 pub use boxed::Boxed;
 pub use clone_in::{CloneIn, copies};
+pub use constants::{LOCATOR_PORT, NAME_PORT, RESERVED};
 pub use laws::{
     keys_tell_names, locators_are_read, names_are_decided, names_are_decoded, names_are_given,
     names_are_read, names_are_refused_once, values_are_decoded,
