@@ -7,6 +7,7 @@ use Rattle.sal_mail.specs.declared.message.Reply.{Reply}
 use Rattle.sal_handler.specs.declared.turn.Turn.{Turn}
 use Rattle.sal_handler.specs.declared.turn.Outcome.{Outcome}
 use Rattle.sal_handler.specs.declared.turn.Began.{Began}
+use Rattle.sal_handler.specs.declared.constants.TheConstants.{MOST_MADE}
 
 -- A call of a handler: the actor's name, the number of its behaviour, and its fields; the number of the
 -- handler, which is 65,535 for `migrate`, and the arguments; to whom the handled message owes its reply; the
@@ -37,7 +38,7 @@ numbered place n (suc k) = Anon place n ∷ numbered place (n + 1) k
 
 -- one for each actor that a handler can make
 unfoldable pub fresh_names : ℕ → ℕ → List Name
-fresh_names place n = numbered place n 1024
+fresh_names place n = numbered place n MOST_MADE
 
 -- the call that a turn of the code stands for: new actors take the names of its place from its fresh number on
 abbrev pub call : Turn → Call

@@ -18,6 +18,7 @@ use Rattle.sal_mail.specs.declared.fault.Trap.TheVariants.{TooManyMessages, BadN
 use Rattle.sal_handler.specs.Evaluation.{Checked, Eval, ◌>>=◌, ◌>>◌, pure, lift, require}
 use Rattle.sal_handler.specs.Values.{is_true, int_of, text_of, made, operate, decides, negated, inverted, number, item, length_of, array_of}
 use Rattle.sal_handler.specs.Scopes.{Reads, read, read_field, take_number, fresh_name}
+use Rattle.sal_handler.specs.declared.constants.TheConstants.{MOST_MADE}
 
 -- what an expression does where this is read
 abbrev pub Mean : Type 0
@@ -95,7 +96,7 @@ Make = ℕ → List Value → Checked (List Value)
 
 -- at most 1,024 new actors, with a name or without
 abbrev pub room_for_actor : Eval (Unit {0})
-room_for_actor = λ s. require (nat_lt (length s.actors + length s.creations) 1024) TooManyMessages s
+room_for_actor = λ s. require (nat_lt (length s.actors + length s.creations) MOST_MADE) TooManyMessages s
 
 -- an actor with these fields is made, under the next of the names for new actors; gives the reference to it
 abbrev pub add_actor : ℕ → Reads → List Value → Eval Value

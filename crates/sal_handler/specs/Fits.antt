@@ -12,6 +12,7 @@ use Rattle.sal_ast.specs.Members.{Handler, fields_of, handlers_of}
 use Rattle.sal_ast.specs.Sorts.{type_sort}
 use Rattle.sal_handler.specs.Handler.{handle, begin}
 use Rattle.sal_handler.specs.Calls.{Meaning}
+use Rattle.sal_mail.specs.declared.constants.TheConstants.{OUTPUT, MIGRATE}
 
 -- a legal value of the type
 abbrev pub is_of : Option Sort → Value → Bool
@@ -44,7 +45,7 @@ text = Some (record { base = base.Str; dims = 0 })
 
 -- the numbers of the behaviour and the handler are those of `migrate`
 abbrev pub is_migrate : ℕ → ℕ → Bool
-is_migrate behavior handler = nat_eq behavior 65535 && nat_eq handler 65535
+is_migrate behavior handler = nat_eq behavior OUTPUT && nat_eq handler MIGRATE
 
 -- a call of a handler that the program has, or of `migrate`, with legal values of the parameters' types
 unfoldable pub fits_call : Program → ℕ → ℕ → List Value → Bool

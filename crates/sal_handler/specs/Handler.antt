@@ -36,6 +36,9 @@ use Rattle.sal_handler.specs.Scopes.{Reads}
 use Rattle.sal_handler.specs.Expressions.{Make, eval}
 use Rattle.sal_handler.specs.Statements.{block}
 use Rattle.sal_handler.specs.Calls.{Call}
+use Rattle.sal_value.specs.declared.constants.TheConstants.{RESERVED}
+use Rattle.sal_mail.specs.declared.constants.TheConstants.{MIGRATE}
+use Rattle.sal_handler.specs.declared.constants.TheConstants.{LAST_SERIAL}
 
 -- ---- how a body starts
 
@@ -146,11 +149,11 @@ migrated c = moved (ual_of (first_text c.args)) c
 
 -- handler 65,535 is `migrate`, whatever the behaviour; else the called handler of the actor's behaviour runs
 abbrev pub ran_from : Program → Call → Checked Effects
-ran_from p c = if nat_eq c.handler 65535 then migrated c else ran_in (slice_get p.behaviors c.behavior) p c
+ran_from p c = if nat_eq c.handler MIGRATE then migrated c else ran_in (slice_get p.behaviors c.behavior) p c
 
 -- it traps where fewer than 4,096 numbers are left below 2^64, and else the called handler runs
 abbrev pub run : Program → Call → Checked Effects
-run p c = if nat_lt 18446744073709547520 c.serial then Err TooManyMessages else ran_from p c
+run p c = if nat_lt LAST_SERIAL c.serial then Err TooManyMessages else ran_from p c
 
 -- the effects, or the trap that undoes them
 abbrev pub outcome_of : Checked Effects → Outcome
@@ -196,7 +199,7 @@ start_at n None later = later
 -- the first of these behaviours with a handler `act`, and its handler; they are numbered from n on, below 65,535
 abbrev pub start_from : ℕ → List Behavior → Option (ℕ × ℕ)
 start_from n [] = None
-start_from n (b ∷ bs) = if nat_lt n 65535 then start_at n (act_in b) (start_from (n + 1) bs) else None
+start_from n (b ∷ bs) = if nat_lt n RESERVED then start_at n (act_in b) (start_from (n + 1) bs) else None
 
 -- the first behaviour with a handler `act`, and the number of this handler
 unfoldable pub start_of : Program → Option (ℕ × ℕ)

@@ -9,10 +9,11 @@ use Rattle.sal_mail.specs.declared.effects.Effects.{Effects}
 use Rattle.sal_handler.specs.declared.turn.Outcome.TheVariants.{Done}
 use Rattle.sal_handler.specs.Calls.{Call}
 use Rattle.sal_handler.specs.Handler.{handle}
+use Rattle.sal_handler.specs.declared.constants.TheConstants.{MOST_MADE}
 
 -- at most 1,024 messages, 1,024 joins and 1,024 new actors, with a universal name or without
 abbrev pub AreFew : List Message → List Join → List Actor → List Creation → Type 0
-AreFew messages joins actors creations = (length messages ≤ 1024) × (length joins ≤ 1024) × (length actors + length creations ≤ 1024)
+AreFew messages joins actors creations = (length messages ≤ MOST_MADE) × (length joins ≤ MOST_MADE) × (length actors + length creations ≤ MOST_MADE)
 
 -- A handler makes few things, and takes one number for each message, join and creation, and no other.
 pub record MakesFew (c : Call) (e : Effects) : Type 0 where

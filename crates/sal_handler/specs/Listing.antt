@@ -26,6 +26,7 @@ use Rattle.sal_mail.specs.declared.message.Reply.TheVariants as reply
 use Rattle.sal_mail.specs.declared.message.Target.TheVariants as target
 use Rattle.sal_mail.specs.declared.message.Message.{Message}
 use Rattle.sal_handler.specs.Prints.{waits_for}
+use Rattle.sal_mail.specs.declared.constants.TheConstants.{OUTPUT, PRINT, PRINTLN}
 
 -- the stages of a chain as a statement; of other statements none
 abbrev pub stages_at : Stmt-F Stage Stmt Chain → List Stage
@@ -69,7 +70,7 @@ argument_in _ = []
 
 -- `println` is handler 1 of the output, and `print` handler 0
 abbrev pub output_handler : List ℕ → ℕ
-output_handler name = if bytes_eq name (codes "println") then 1 else 0
+output_handler name = if bytes_eq name (codes "println") then PRINTLN else PRINT
 
 -- a message to the output
 abbrev pub listed : Name → Option ℕ → ℕ → ℕ → List Piece → Reply → Message
@@ -77,7 +78,7 @@ listed me before number handler args owes = record {
   maker = me;
   serial = number;
   target = target.Output;
-  behavior = 65535;
+  behavior = OUTPUT;
   handler = handler;
   args = args;
   after = waits_for before;
@@ -88,7 +89,7 @@ listed me before number handler args owes = record {
 -- the message of a stage
 abbrev pub message_at : Name → Option ℕ → ℕ → Stage-F Stage Stmt Chain → Reply → Message
 message_at me before number (Stage-F.Message m) owes = listed me before number (output_handler m.handler.text) (argument_in m.args) owes
-message_at me before number (Stage-F.Join at body) owes = listed me before number 0 [] owes
+message_at me before number (Stage-F.Join at body) owes = listed me before number PRINT [] owes
 
 -- the message of a stage as a tree
 unfoldable pub message_in : Name → Option ℕ → ℕ → Stage → Reply → Message

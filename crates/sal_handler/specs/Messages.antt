@@ -35,6 +35,8 @@ use Rattle.sal_handler.specs.declared.state.State.{State}
 use Rattle.sal_handler.specs.Evaluation.{Eval, ◌>>=◌, pure, trap}
 use Rattle.sal_handler.specs.Scopes.{Reads, scope_of, token_named, next_number, next_place}
 use Rattle.sal_handler.specs.Expressions.{eval}
+use Rattle.sal_mail.specs.declared.constants.TheConstants.{OUTPUT, PRINT, PRINTLN, MIGRATE}
+use Rattle.sal_handler.specs.declared.constants.TheConstants.{LONGEST_DELAY, NO_NUMBER}
 
 -- ---- target, arguments and delay, in the order of the text
 
@@ -96,7 +98,7 @@ target_of (Some v) = target_in (out-Value v)
 
 -- a delay of 0 to 86,400,000 ms, or none where the value is no such int
 abbrev pub delay_in : Value-F Value → Option ℕ
-delay_in (Value-F.Int (pos n)) = if nat_lt 86400000 n then None else Some n
+delay_in (Value-F.Int (pos n)) = if nat_lt LONGEST_DELAY n then None else Some n
 delay_in _ = None
 
 -- the delay: 0 without a value, else that of the value
@@ -160,14 +162,10 @@ owed end.Caller r n = pure r.reply
 
 -- ---- to which handler it goes
 
--- where the program has no such behaviour or handler, which typing refuses
-abbrev pub no_number : ℕ
-no_number = 65534
-
 -- the number of a behaviour or handler, or the one that stands for none
 abbrev pub or_no_number : Option ℕ → ℕ
 or_no_number (Some n) = n
-or_no_number None = no_number
+or_no_number None = NO_NUMBER
 
 -- to which handler a message goes: the number of its behaviour, and its own number there
 pub record Address : Type 0 where
@@ -176,13 +174,13 @@ pub record Address : Type 0 where
 
 -- `println` is handler 1 of the output, whose behaviour is 65,535; any other name counts as `print`, handler 0
 abbrev pub output_address : List ℕ → Address
-output_address name = record { behavior = 65535; handler = if bytes_eq name (codes "println") then 1 else 0 }
+output_address name = record { behavior = OUTPUT; handler = if bytes_eq name (codes "println") then PRINTLN else PRINT }
 
 -- Every actor understands `migrate`, handler 65,535 of behaviour 65,535. Other handlers are those of the
 -- behaviour that the target has in the text.
 abbrev pub actor_address : List ℕ → Option ℕ → Reads → Address
 actor_address name behavior r =
-    if bytes_eq name (codes "migrate") then record { behavior = 65535; handler = 65535 }
+    if bytes_eq name (codes "migrate") then record { behavior = OUTPUT; handler = MIGRATE }
     else record { behavior = or_no_number behavior; handler = or_no_number (handler_named name (handlers_at r.behaviors behavior)) }
 
 -- to which handler of the output or of an actor a message goes, by its name and the target's behaviour

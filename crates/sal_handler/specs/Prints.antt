@@ -30,6 +30,8 @@ use Rattle.sal_handler.specs.declared.turn.Outcome.TheVariants as outcome
 use Rattle.sal_handler.specs.declared.turn.Began.TheVariants as began
 use Rattle.sal_handler.specs.Calls.{Call}
 use Rattle.sal_handler.specs.Handler.{handle, begin}
+use Rattle.sal_mail.specs.declared.constants.TheConstants.{OUTPUT, PRINT, PRINTLN}
+use Rattle.sal_handler.specs.declared.constants.TheConstants.{MOST_MADE, LAST_SERIAL}
 
 -- a stage: the byte of `standardOutput`, `print` or `println` with its byte, and perhaps a string
 -- with the byte of its quote
@@ -87,7 +89,7 @@ AreShort (p ∷ ps) = IsShort p.text × AreShort ps
 pub record IsChainOfPrints (p : Program) : Type 0 where
   pub outline : Outline
   pub is_tree : p ≡ program_of outline
-  pub few : length outline.prints ≤ 1024
+  pub few : length outline.prints ≤ MOST_MADE
   pub short : AreShort outline.prints
 
 -- ---- what its handler does
@@ -108,8 +110,8 @@ print_message me before number p owes = record {
   maker = me;
   serial = number;
   target = target.Output;
-  behavior = 65535;
-  handler = if bytes_eq p.handler.text (codes "println") then 1 else 0;
+  behavior = OUTPUT;
+  handler = if bytes_eq p.handler.text (codes "println") then PRINTLN else PRINT;
   args = argument_known p.text;
   after = waits_for before;
   delay = 0;
@@ -142,5 +144,5 @@ print_effects c ps = record {
 -- Such a program begins with an actor without fields, and its handler `act` sends the stages.
 pub record ChainsOfPrintsAreSent : Type 0 where
   pub begins : (o : Outline) → begin (program_of o) ≡ began.Actor 0 0 []
-  pub sends : (o : Outline) (c : Call) → c.behavior ≡ 0 → c.handler ≡ 0 → c.serial ≤ 18446744073709547520 → length o.prints ≤ 1024 → AreShort o.prints →
+  pub sends : (o : Outline) (c : Call) → c.behavior ≡ 0 → c.handler ≡ 0 → c.serial ≤ LAST_SERIAL → length o.prints ≤ MOST_MADE → AreShort o.prints →
       handle (program_of o) c ≡ outcome.Done (print_effects c o.prints)

@@ -18,6 +18,7 @@ use Rattle.sal_handler.specs.declared.state.Inside.{Inside}
 use Rattle.sal_handler.specs.declared.state.State.{State}
 use Rattle.sal_handler.specs.Evaluation.{Checked, and_then, Eval}
 use Rattle.sal_handler.specs.Values.{item_at, assigned}
+use Rattle.sal_handler.specs.declared.constants.TheConstants.{MOST_MADE, MOST_TURNS, NO_THEATRE}
 
 -- What a handler reads: whose it is, to whom the handled message owes its reply, the behaviours of the
 -- program, the number of its own, the joins whose blocks it is in, from the innermost outwards, the names
@@ -153,7 +154,7 @@ token_named name s = token_at (local_named name s.locals) s
 
 -- a loop body begins: at most 100,000 times in one handler, all its loops together
 abbrev pub begin_turn : Eval (Unit {0})
-begin_turn = λ s. if nat_lt s.turns 100000 then Ok (tt, record s { turns = s.turns + 1 }) else Err TooManyTurns
+begin_turn = λ s. if nat_lt s.turns MOST_TURNS then Ok (tt, record s { turns = s.turns + 1 }) else Err TooManyTurns
 
 -- The actor's next number. A handler begins with 4,096 numbers left, so the test never fails in one.
 abbrev pub take_number : Eval ℕ
@@ -161,7 +162,7 @@ take_number = λ s. if nat_lt s.serial 18446744073709551615 then Ok (s.serial, r
 
 -- the next number, where so many of a kind are there: at most 1,024 messages, and as many joins
 abbrev pub next_number : ℕ → Eval ℕ
-next_number count = λ s. if nat_lt count 1024 then take_number s else Err TooManyMessages
+next_number count = λ s. if nat_lt count MOST_MADE then take_number s else Err TooManyMessages
 
 -- The next place of the innermost join. Each place is for one of the handler's messages or joins, of which
 -- there are at most 1,024 each, so at most 2,048 places are taken. The test against 4,096, the most items of an
@@ -172,7 +173,7 @@ next_place = λ s. if nat_lt s.places 4096 then Ok (s.places, record s { places 
 -- the name; where there is none, the name number i of theatre 4,294,967,295, which stands for no theatre
 abbrev pub name_or : Option Name → ℕ → Name
 name_or (Some n) i = n
-name_or None i = Anon 4294967295 i
+name_or None i = Anon NO_THEATRE i
 
 -- the name that the new actor with this place takes; past the list's end names are of no theatre
 abbrev pub fresh_name : List Name → ℕ → Name

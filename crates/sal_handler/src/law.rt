@@ -9,7 +9,7 @@ pub fn chains_of_prints_are_sent()
     ensures { ChainsOfPrintsAreSent }
 {}
 
-/// A loop's bound never shows, and no handler begins more than 100,000 loop turns.
+/// A loop's bound never shows, and where a block ends well at most 100,000 loop turns were begun.
 pub fn loops_stop_themselves()
     ensures { LoopsStopThemselves }
 {}
@@ -20,7 +20,8 @@ pub fn handlers_are_orderly()
     ensures { HandlersAreOrderly }
 {}
 
-/// They are fair, where the call's values are legal: then all that they leave is legal, too.
+/// They are fair, where the call's values are legal: then known arguments, the actor's fields, and
+/// those of new actors and creations are legal, too.
 pub fn handlers_are_fair()
     ensures { HandlersAreFair }
 {}

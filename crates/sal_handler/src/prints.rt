@@ -10,17 +10,14 @@ ghost use Rattle.sal_value.specs.declared.value.Base.TheVariants.{Str};
 ghost use Rattle.sal_handler.specs.Fits.{is_of, are_of, is_migrate, fits_call};
 ghost use Rattle.sal_handler.specs.Prints.{IsChainOfPrints, waits_for};
 
+use crate::constants::LAST_SERIAL;
 use crate::turn::{Began, Outcome, Turn};
 use sal_ast::{Arg, Behavior, Expr, Member, Program, Stage, Stmt};
-use sal_mail::{Answer, Effects, Message, Piece, Reply, Target, Trap};
-use sal_value::{Base, List, Name, NameFault, NoMemory, Sort, Ual, Value, Values, names_are_given};
+use sal_mail::{
+    Answer, Effects, MIGRATE, Message, OUTPUT, PRINT, PRINTLN, Piece, Reply, Target, Trap,
+};
+use sal_value::{Base, List, Name, NameFault, NoMemory, Sort, Ual, Value, names_are_given};
 use std::alloc::Global;
-
-/// The behaviour of the output, and the number of `migrate`.
-const RESERVED: u16 = 65_535;
-
-/// Above this next number fewer than 4,096 numbers are left.
-const LAST_SERIAL: u64 = u64::MAX - 4095;
 
 fn stages_of_body(body: &[Stmt]) -> &[Stage]
     ensures { result.now ≡ spec.stages_in_body body.now }
@@ -80,7 +77,7 @@ fn waits(alloc: Global, before: Option<u64>) -> Result<List<u64>, NoMemory>
 fn output_handler(name: &str) -> u16
     ensures { result ≡ spec.output_handler name.now }
 {
-    if name == "println" { 1 } else { 0 }
+    if name == "println" { PRINTLN } else { PRINT }
 }
 
 /// To whom a stage with `left` stages behind it owes its reply.
@@ -109,13 +106,13 @@ fn message(
             output_handler(send.handler.text.as_str()),
             argument(alloc, send.args.as_slice())?,
         ),
-        Stage::Join { .. } => (0, List::new(alloc)),
+        Stage::Join { .. } => (PRINT, List::new(alloc)),
     };
     Ok(Message {
         maker: me.clone_in(alloc)?,
         serial: number,
         target: Target::Output,
-        behavior: RESERVED,
+        behavior: OUTPUT,
         handler,
         args,
         after: waits(alloc, before)?,
@@ -148,16 +145,6 @@ fn messages(
     Ok(sent)
 }
 
-fn copied(alloc: Global, values: &[Value]) -> Result<Values, NoMemory>
-    ensures { IfOk result (λ copies. copies ≡ values.now) }
-{
-    let mut copies = List::new(alloc);
-    for value in values {
-        copies.push(value.clone_in(alloc)?)?;
-    }
-    Ok(copies)
-}
-
 /// Effects that send these messages, and answer null.
 fn effects(
     alloc: Global,
@@ -168,7 +155,7 @@ fn effects(
     ensures { IfOk result (λ e. e ≡ record (unchanged (call turn.now)) { messages = messages; serial = serial; fresh = turn.now.fresh }) }
 {
     Ok(Effects {
-        fields: copied(alloc, turn.fields.as_slice())?,
+        fields: turn.fields.clone_in(alloc)?,
         answer: Answer::Value(Value::Null),
         messages,
         joins: List::new(alloc),
@@ -226,7 +213,7 @@ fn migrated(alloc: Global, turn: &Turn<'_>) -> Result<Outcome, NoMemory>
 fn acted(alloc: Global, program: &Program, turn: &Turn<'_>) -> Result<Outcome, NoMemory>
     requires form { IsChainOfPrints program.now }
     requires act { (turn.now.behavior ≡ 0) × (turn.now.handler ≡ 0) }
-    requires room { turn.now.serial ≤ 18446744073709547520 }
+    requires room { turn.now.serial ≤ LAST_SERIAL }
     ensures { IfOk result (λ it. it ≡ handle program.now (call turn.now)) }
 {
     let stages = stages_of(program);
@@ -238,8 +225,8 @@ fn acted(alloc: Global, program: &Program, turn: &Turn<'_>) -> Result<Outcome, N
 /// The program has no other handler, so nothing changes.
 fn other(alloc: Global, program: &Program, turn: &Turn<'_>) -> Result<Outcome, NoMemory>
     requires form { IsChainOfPrints program.now }
-    requires room { turn.now.serial ≤ 18446744073709547520 }
-    requires other { turn.now.handler ≢ 65535 }
+    requires room { turn.now.serial ≤ LAST_SERIAL }
+    requires other { turn.now.handler ≢ MIGRATE }
     requires no_act { turn.now.behavior ≡ 0 → turn.now.handler ≡ 0 → ⊥ }
     ensures { IfOk result (λ it. it ≡ handle program.now (call turn.now)) }
 {
@@ -255,7 +242,7 @@ pub fn handle_prints(alloc: Global, program: &Program, turn: &Turn<'_>) -> Resul
     if turn.serial > LAST_SERIAL {
         return Ok(Outcome::Trap(Trap::TooManyMessages));
     }
-    if turn.handler == RESERVED {
+    if turn.handler == MIGRATE {
         return migrated(alloc, turn);
     }
     if turn.behavior == 0 && turn.handler == 0 {
@@ -294,7 +281,7 @@ fn is_one_of(args: &[Value], dims: u8) -> bool
 fn is_migrate(behavior: u16, handler: u16) -> bool
     ensures { result ≡ is_migrate behavior handler }
 {
-    behavior == RESERVED && handler == RESERVED
+    behavior == OUTPUT && handler == MIGRATE
 }
 
 fn is_act(behavior: u16, handler: u16) -> bool
