@@ -122,13 +122,15 @@ module _ (c : Configuration) where
     none_refused authorities maker serial (Some x) h =
         ap (λ b. if b then Some (s.add_fault NameTaken maker serial (s.drop_creation maker serial c)) else None) (given_is x ∙ or_first (fm.contains_key c.actors (name_key (name.Uan x.1.name))) _ h)
 
-    pub at_end : (setup : Setup) → AnyOf message_key (is_possible c.actors) c.waiting.messages false → AnyOf creation_key (is_decided setup.authorities c.actors) c.creations false → s.IsAtEnd setup c
+    pub at_end : (authorities : List Authority) → AnyOf message_key (is_possible c.actors) c.waiting.messages false → AnyOf creation_key (is_decided authorities c.actors) c.creations false → s.IsAtEnd authorities c
     unfolding s.step
-    at_end setup ms xs p (step.Handle maker serial fresh) e = none_handled p.outcome maker serial fresh (fm.get c.waiting.messages (made_key maker serial)) (ms (made_key maker serial))
-    at_end setup ms xs p (step.Print maker serial) e = none_printed maker serial (fm.get c.waiting.messages (made_key maker serial)) (ms (made_key maker serial))
-    at_end setup ms xs p (step.Bind maker serial) e = none_bound setup.authorities maker serial (fm.get c.creations (made_key maker serial)) (xs (made_key maker serial))
-    at_end setup ms xs p (step.Refuse maker serial) e = none_refused setup.authorities maker serial (fm.get c.creations (made_key maker serial)) (xs (made_key maker serial))
-    at_end setup ms xs p (step.Post number to behavior handler args) e = absurd (true≢false e)
+    at_end authorities ms xs p setup same (step.Handle maker serial fresh) e = none_handled p.outcome maker serial fresh (fm.get c.waiting.messages (made_key maker serial)) (ms (made_key maker serial))
+    at_end authorities ms xs p setup same (step.Print maker serial) e = none_printed maker serial (fm.get c.waiting.messages (made_key maker serial)) (ms (made_key maker serial))
+    at_end authorities ms xs p setup same (step.Bind maker serial) e =
+        let P : List Authority → Type 0 = λ l. IfSome (fm.get c.creations (made_key maker serial)) (λ x. is_decided l c.actors x ≡ false) in
+        none_bound setup.authorities maker serial (fm.get c.creations (made_key maker serial)) (subst P (sym same) (xs (made_key maker serial)))
+    at_end authorities ms xs p setup same (step.Refuse maker serial) e = none_refused authorities maker serial (fm.get c.creations (made_key maker serial)) (xs (made_key maker serial))
+    at_end authorities ms xs p setup same (step.Post number to behavior handler args) e = absurd (true≢false e)
 
   -- ---- some step is possible
 
@@ -139,6 +141,10 @@ module _ (c : Configuration) where
   and_second : (a b : Bool) → (a && b) ≡ true → b ≡ true
   and_second true b e = e
   and_second false b e = absurd (true≢false (sym e))
+
+  -- these naming services, and no words
+  abbrev silent : List Authority → Setup
+  silent authorities = record { authorities = authorities; words = [] }
 
   -- a program whose handlers trap
   abbrev trapping : Meaning
@@ -154,36 +160,36 @@ module _ (c : Configuration) where
       at true e = absurd (cc)
       at false e = absurd (cc)
 
-  takes_on : (setup : Setup) (m : Message) (to : Target) → m.target ≡ to → fm.get c.waiting.messages (message_key m) ≡ Some m → is_ready m ≡ true → has_taker c.actors to ≡ true → s.IsAtEnd setup c → ⊥
+  takes_on : (authorities : List Authority) (m : Message) (to : Target) → m.target ≡ to → fm.get c.waiting.messages (message_key m) ≡ Some m → is_ready m ≡ true → has_taker c.actors to ≡ true → s.IsAtEnd authorities c → ⊥
   unfolding s.step
-  takes_on setup m target.Output e got r h end =
+  takes_on authorities m target.Output e got r h end =
       some_none _ (give m.reply Null (s.add_output (s.printed m) (s.drop_message m.maker m.serial c)))
-      (ready (fm.get c.waiting.messages (message_key m)) m (λ m'. s.print_message m.maker m.serial m' c) got r ∙ rw e refl) (end trapping (step.Print m.maker m.serial) refl)
-  takes_on setup m (target.Actor n) e got r h end = there (fm.get c.actors (name_key n)) refl h
+      (ready (fm.get c.waiting.messages (message_key m)) m (λ m'. s.print_message m.maker m.serial m' c) got r ∙ rw e refl) (end trapping (silent authorities) refl (step.Print m.maker m.serial) refl)
+  takes_on authorities m (target.Actor n) e got r h end = there (fm.get c.actors (name_key n)) refl h
     where
       there : (o : Option (Actor × ℕ)) → fm.get c.actors (name_key n) ≡ o → is_some o ≡ true → ⊥
       there None g h = true≢false (sym h)
       there (Some a) g h =
           handled_none m.maker m.serial m a
-          (sym (ready (fm.get c.waiting.messages (message_key m)) m (λ m'. s.handle_message trapping.outcome m.maker m.serial [] m' c) got r ∙ rw (e, g) refl) ∙ end trapping (step.Handle m.maker m.serial []) refl)
+          (sym (ready (fm.get c.waiting.messages (message_key m)) m (λ m'. s.handle_message trapping.outcome m.maker m.serial [] m' c) got r ∙ rw (e, g) refl) ∙ end trapping (silent authorities) refl (step.Handle m.maker m.serial []) refl)
 
-  pub message_goes : (setup : Setup) → AnyOf message_key (is_possible c.actors) c.waiting.messages true → s.IsAtEnd setup c → ⊥
-  message_goes setup p end = takes_on setup p.0 p.0.target refl p.1.0 (and_first (is_ready p.0) _ p.1.1) (and_second (is_ready p.0) _ p.1.1) end
+  pub message_goes : (authorities : List Authority) → AnyOf message_key (is_possible c.actors) c.waiting.messages true → s.IsAtEnd authorities c → ⊥
+  message_goes authorities p end = takes_on authorities p.0 p.0.target refl p.1.0 (and_first (is_ready p.0) _ p.1.1) (and_second (is_ready p.0) _ p.1.1) end
 
   module _ (given : c.given ≡ keys_of c.actors) where
-    pub creation_goes : (setup : Setup) → AnyOf creation_key (is_decided setup.authorities c.actors) c.creations true → s.IsAtEnd setup c → ⊥
+    pub creation_goes : (authorities : List Authority) → AnyOf creation_key (is_decided authorities c.actors) c.creations true → s.IsAtEnd authorities c → ⊥
     unfolding s.step
-    creation_goes setup p end = at (fm.contains_key c.actors (name_key (name.Uan p.0.1.name))) refl p.1.1
+    creation_goes authorities p end = at (fm.contains_key c.actors (name_key (name.Uan p.0.1.name))) refl p.1.1
       where
-        at : (b : Bool) → fm.contains_key c.actors (name_key (name.Uan p.0.1.name)) ≡ b → (b || s.is_served setup.authorities p.0.1.name) ≡ true → ⊥
-        at true g h = some_none _ _ (refuse_done p.0.0 p.0.1.serial c p.0 (sym p.1.0) (given_is given p.0 ∙ g)) (end trapping (step.Refuse p.0.0 p.0.1.serial) refl)
-        at false g h = some_none _ _ (bind_done setup.authorities p.0.0 p.0.1.serial c p.0 (sym p.1.0) h (given_is given p.0 ∙ g)) (end trapping (step.Bind p.0.0 p.0.1.serial) refl)
+        at : (b : Bool) → fm.contains_key c.actors (name_key (name.Uan p.0.1.name)) ≡ b → (b || s.is_served authorities p.0.1.name) ≡ true → ⊥
+        at true g h = some_none _ _ (refuse_done p.0.0 p.0.1.serial c p.0 (sym p.1.0) (given_is given p.0 ∙ g)) (end trapping (silent authorities) refl (step.Refuse p.0.0 p.0.1.serial) refl)
+        at false g h = some_none _ _ (bind_done authorities p.0.0 p.0.1.serial c p.0 (sym p.1.0) h (given_is given p.0 ∙ g)) (end trapping (silent authorities) refl (step.Bind p.0.0 p.0.1.serial) refl)
 
 -- ---- what the code finds
 
-pub not_final : (c : Configuration) (setup : Setup) → AnyOf message_key (is_possible c.actors) c.waiting.messages true → IsTrue false ↔ s.IsAtEnd setup c
-not_final c setup p = (λ f. absurd (true≢false (sym f)), λ end. absurd (message_goes c setup p end))
+pub not_final : (c : Configuration) (authorities : List Authority) → AnyOf message_key (is_possible c.actors) c.waiting.messages true → IsTrue false ↔ s.IsAtEnd authorities c
+not_final c authorities p = (λ f. absurd (true≢false (sym f)), λ end. absurd (message_goes c authorities p end))
 
-pub final_is : (c : Configuration) (setup : Setup) (b : Bool) → c.given ≡ keys_of c.actors → AnyOf message_key (is_possible c.actors) c.waiting.messages false → AnyOf creation_key (is_decided setup.authorities c.actors) c.creations b → IsTrue (not b) ↔ s.IsAtEnd setup c
-final_is c setup true given ms xs = (λ f. absurd (true≢false (sym f)), λ end. absurd (creation_goes c given setup xs end))
-final_is c setup false given ms xs = (λ _. at_end c given setup ms xs, λ _. refl)
+pub final_is : (c : Configuration) (authorities : List Authority) (b : Bool) → c.given ≡ keys_of c.actors → AnyOf message_key (is_possible c.actors) c.waiting.messages false → AnyOf creation_key (is_decided authorities c.actors) c.creations b → IsTrue (not b) ↔ s.IsAtEnd authorities c
+final_is c authorities true given ms xs = (λ f. absurd (true≢false (sym f)), λ end. absurd (creation_goes c given authorities xs end))
+final_is c authorities false given ms xs = (λ _. at_end c given authorities ms xs, λ _. refl)

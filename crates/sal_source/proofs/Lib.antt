@@ -9,11 +9,9 @@ pub mod Installing
 pub mod Keeping
 pub mod Legal
 pub mod Listing
-pub mod Loops
 pub mod Mapping
 pub mod Never
 pub mod Once
-pub mod Places
 pub mod Played
 pub mod Runs
 pub mod Same

@@ -20,12 +20,6 @@ abbrev pub listed : {A : Type 0} → Option A → List A
 listed None = []
 listed (Some a) = a ∷ []
 
--- there is such a place, and it is empty
-abbrev pub is_open : Option (Option Value) → Bool
-is_open None = false
-is_open (Some None) = true
-is_open (Some (Some value)) = false
-
 -- one reply was given: what waits, the answers, and what it gives on
 pub record GivesOne (g : Given) (old new : Waiting) (answers_old answers_new : List (ℕ × Value)) (more : List Given) : Type 0 where
   pub waiting : new ≡ give_one g old

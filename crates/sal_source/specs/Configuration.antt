@@ -6,6 +6,8 @@ use Rattle.std.specs.FinSet as fs
 use Rattle.sal_value.specs.declared.name.Name.{Name}
 use Rattle.sal_value.specs.contracts.name.Name.{the_row as name_row}
 use Rattle.sal_value.specs.declared.name.Name.TheVariants.{Anon, Outside}
+use Rattle.sal_value.specs.declared.name.Authority.{Authority}
+use Rattle.sal_value.specs.contracts.name.Authority.{the_row as authority_row}
 use Rattle.sal_value.specs.declared.value.Value.{Value}
 use Rattle.sal_value.specs.declared.value.Value.TheVariants.{Array}
 use Rattle.sal_value.specs.contracts.value.Value.{the_row as value_row}
@@ -49,6 +51,11 @@ pub record Configuration : Type 0 where
   pub answers : List (ℕ × Value)
   pub posted : ℕ
 
+-- The configuration that a run has come to, with the naming services that there are.
+pub record End : Type 0 where
+  pub authorities : List Authority
+  pub configuration : Configuration
+
 -- ---- their codes, so that a type of the program can stand for them
 
 -- the code of keys and texts
@@ -85,6 +92,16 @@ configuration_code =
     (coded× actors_code (coded× (fs.code words_code) (coded× creations_code (coded× waiting_code (coded× (coded_list words_code) (coded× (coded_list fault_row.coded) (coded× (coded_list (coded× coded_ℕ value_row.coded)) coded_ℕ)))))))
     (λ c. (c.actors, (c.given, (c.creations, (c.waiting, (c.output, (c.faults, (c.answers, c.posted))))))))
     (λ p. record { actors = p.0; given = p.1.0; creations = p.1.1.0; waiting = p.1.1.1.0; output = p.1.1.1.1.0; faults = p.1.1.1.1.1.0; answers = p.1.1.1.1.1.1.0; posted = p.1.1.1.1.1.1.1 })
+    (λ _. refl)
+
+-- the code of what runs come to
+abbrev pub end_code : Coded End
+end_code =
+    code_by
+    (List Authority × Configuration)
+    (coded× (coded_list authority_row.coded) configuration_code)
+    (λ e. (e.authorities, e.configuration))
+    (λ p. record { authorities = p.0; configuration = p.1 })
     (λ _. refl)
 
 -- ---- the first configuration

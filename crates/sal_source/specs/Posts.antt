@@ -12,6 +12,7 @@ use Rattle.sal_mail.specs.declared.message.Message.{Message}
 use Rattle.sal_mail.specs.declared.message.Piece.TheVariants.{Known}
 use Rattle.sal_mail.specs.declared.message.Reply.TheVariants as reply
 use Rattle.sal_mail.specs.declared.message.Target.TheVariants as target
+use Rattle.sal_mail.specs.declared.constants.TheConstants.{OUTPUT}
 
 -- the name is a universal one
 abbrev pub is_universal : Name → Bool
@@ -40,7 +41,7 @@ may_be_posted v = is_legal v && holds_universal v
 -- the output and not `migrate`, and the values may be posted. Whether the program has the handler, with
 -- these parameters, is for the program to say.
 abbrev pub fits_post : ℕ → ℕ → Uan → ℕ → List Value → Bool
-fits_post last number to behavior args = nat_lt last number && (is_uan to && (not (nat_eq behavior 65535) && list_all may_be_posted args))
+fits_post last number to behavior args = nat_lt last number && (is_uan to && (not (nat_eq behavior OUTPUT) && list_all may_be_posted args))
 
 -- the message of a post
 abbrev pub post_message : ℕ → Uan → ℕ → ℕ → List Value → Message

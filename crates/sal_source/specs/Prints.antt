@@ -11,6 +11,7 @@ use Rattle.sal_source.specs.declared.state.Step.TheVariants as step
 use Rattle.sal_source.specs.Configuration.{Configuration}
 use Rattle.sal_source.specs.Step.{IsFinal}
 use Rattle.sal_source.specs.Run.{play}
+use Rattle.sal_handler.specs.declared.constants.TheConstants.{MOST_MADE}
 
 -- ---- what such a program prints
 
@@ -39,7 +40,7 @@ abbrev pub trace : ℕ → List Step
 trace n = step.Handle (Outside 0) 0 [] ∷ print_steps 0 n
 
 -- The trace of the program is a run from the first configuration. It ends with exactly the texts of
--- the stages, without faults and answers, where no step is possible.
+-- the stages, without faults and answers, where no step but a post is possible.
 pub record Runs (o : Outline) (setup : Setup) : Type 0 where
   pub count : length (stages_in (program_of o)) ≡ length o.prints
   pub end : Configuration
@@ -51,4 +52,4 @@ pub record Runs (o : Outline) (setup : Setup) : Type 0 where
 
 -- every chain of at most 1,024 prints has such a run
 abbrev pub ChainsOfPrintsRun : Type 0
-ChainsOfPrintsRun = (o : Outline) (setup : Setup) → length o.prints ≤ 1024 → AreShort o.prints → Runs o setup
+ChainsOfPrintsRun = (o : Outline) (setup : Setup) → length o.prints ≤ MOST_MADE → AreShort o.prints → Runs o setup

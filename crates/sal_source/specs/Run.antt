@@ -6,7 +6,7 @@ use Rattle.sal_source.specs.declared.state.Setup.{Setup}
 use Rattle.sal_source.specs.declared.state.Step.{Step}
 use Rattle.sal_source.specs.declared.state.PlayFault.{PlayFault}
 use Rattle.sal_source.specs.declared.state.PlayFault.TheVariants.{BadStep, Memory}
-use Rattle.sal_source.specs.Configuration.{Configuration, first}
+use Rattle.sal_source.specs.Configuration.{Configuration, End, first}
 use Rattle.sal_source.specs.Step.{step}
 use Rattle.sal_handler.specs.Fits.{meaning_of}
 
@@ -32,7 +32,7 @@ pub record IsFirstBad (p : Program) (setup : Setup) (ss : List Step) (i : ℕ) :
   pub whole : play p setup ss ≡ None
 
 -- what playing the steps answers
-abbrev pub Plays : Program → Setup → List Step → Result Configuration PlayFault → Type 0
-Plays p setup ss (Ok c) = play p setup ss ≡ Some c
+abbrev pub Plays : Program → Setup → List Step → Result End PlayFault → Type 0
+Plays p setup ss (Ok e) = (play p setup ss ≡ Some e.configuration) × (e.authorities ≡ setup.authorities)
 Plays p setup ss (Err (BadStep i)) = IsFirstBad p setup ss i
 Plays p setup ss (Err Memory) = Unit {0}

@@ -37,6 +37,7 @@ use Rattle.sal_source.specs.Keys.{name_key, made_key, message_key}
 use Rattle.sal_source.specs.Configuration.{Configuration}
 use Rattle.sal_source.specs.Give.{Given, array_of, give, give_all}
 use Rattle.sal_source.specs.Posts.{fits_post, post_message}
+use Rattle.sal_mail.specs.declared.constants.TheConstants.{OUTPUT, PRINTLN, MIGRATE}
 
 -- ---- what is put, and what goes
 
@@ -93,7 +94,7 @@ add_output text c = record c { output = c.output ++ text ∷ [] }
 
 -- `migrate` is behaviour 65,535 with handler 65,535
 abbrev pub is_migrate : Message → Bool
-is_migrate m = nat_eq m.behavior 65535 && nat_eq m.handler 65535
+is_migrate m = nat_eq m.behavior OUTPUT && nat_eq m.handler MIGRATE
 
 -- an actor understands the messages of its behaviour, and `migrate`
 abbrev pub understands : Actor → Message → Bool
@@ -213,7 +214,7 @@ argument_text _ = []
 
 -- `println`, which is handler 1, adds a line feed
 abbrev pub printed : Message → List ℕ
-printed m = if nat_eq m.handler 1 then argument_text m.args ++ 10 ∷ [] else argument_text m.args
+printed m = if nat_eq m.handler PRINTLN then argument_text m.args ++ 10 ∷ [] else argument_text m.args
 
 -- a message that went is printed, and null is given to its reply; only the output prints
 abbrev pub print_to : Target → Message → Configuration → Option Configuration
@@ -315,6 +316,6 @@ is_post (Refuse maker serial) = false
 abbrev pub IsFinal : Meaning → Setup → Configuration → Type 0
 IsFinal p setup c = (s : Step) → is_post s ≡ false → step p setup c s ≡ None
 
--- no step but a post is possible for any program
-abbrev pub IsAtEnd : Setup → Configuration → Type 0
-IsAtEnd setup c = (p : Meaning) → IsFinal p setup c
+-- no step but a post is possible for any program, with these naming services and any words
+abbrev pub IsAtEnd : List Authority → Configuration → Type 0
+IsAtEnd authorities c = (p : Meaning) (setup : Setup) → setup.authorities ≡ authorities → IsFinal p setup c

@@ -11,8 +11,8 @@ ghost use Rattle.std.specs.List.{list_any};
 ghost use Rattle.sal_source.specs.Step as step;
 
 use crate::actors::Actors;
+use crate::made;
 use crate::services::is_served;
-use crate::{copies, made};
 use sal_mail::Creation;
 use sal_value::{Authority, List, Name, NoMemory};
 use std::alloc::Global;
@@ -70,7 +70,7 @@ impl Creations {
     pub fn copied(&self, alloc: Global) -> Result<Creations, NoMemory>
         ensures { IfOk result (λ copy. copy ≡ self.now) }
     {
-        let items = copies::creations(alloc, self.items.as_slice())?;
+        let items = self.items.clone_in(alloc)?;
         Ok(Creations { items })
     }
 

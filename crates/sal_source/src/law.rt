@@ -8,7 +8,7 @@ pub fn replies_commute()
 {}
 
 /// Each program that is one chain of prints has a run that ends with exactly its texts, where no
-/// step is possible.
+/// step but a post is possible.
 pub fn chains_of_prints_run()
     ensures { ChainsOfPrintsRun }
 {}

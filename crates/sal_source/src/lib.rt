@@ -4,10 +4,8 @@
 mod actor_map;
 mod actors;
 mod config;
-mod copies;
 mod creations;
 mod fresh;
-mod joins;
 mod law;
 mod made;
 mod messages;
@@ -31,5 +29,6 @@ pub use law::{
 };
 pub use player::play;
 pub use run::{Met, Run};
+pub use sal_handler::{Began, Outcome, Turn};
 pub use state::{PlayFault, Setup, Step};
 pub use trace::trace_of;

@@ -7,9 +7,8 @@ ghost use Rattle.sal_source.specs.Keys.{made_key, join_key};
 ghost use Rattle.sal_source.specs.Mapped.{join_of, join_words, joins_in};
 ghost use Rattle.sal_source.specs.Step.{put_join};
 
-use crate::copies;
 use sal_mail::{Join, Reply};
-use sal_value::{List, Name, NoMemory, Value, keys_tell_names};
+use sal_value::{CloneIn, List, Name, NoMemory, Value, keys_tell_names};
 use std::alloc::Global;
 use std::collections::BTreeMap;
 use std::marker::Model;
@@ -83,9 +82,9 @@ fn copied_rest(alloc: Global, rest: &OpenJoin) -> Result<OpenJoin, NoMemory>
     ensures { IfOk result (λ copy. copy ≡ rest.now) }
 {
     Ok(OpenJoin {
-        places: copies::places(alloc, rest.places.as_slice())?,
+        places: rest.places.clone_in(alloc)?,
         void: rest.void,
-        reply: copies::reply(alloc, &rest.reply)?,
+        reply: rest.reply.clone_in(alloc)?,
     })
 }
 

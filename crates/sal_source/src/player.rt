@@ -12,8 +12,6 @@ ghost use Rattle.sal_source.specs.Changes.{Takes};
 
 use crate::actor_map::ActorState;
 use crate::config::Config;
-use crate::copies;
-use crate::messages::known_values;
 use crate::run::{Met, Run};
 use crate::state::{PlayFault, Setup, Step};
 use sal_ast::Program;
@@ -27,7 +25,7 @@ fn first(alloc: Global, program: &Program, setup: &Setup) -> Result<Run, NoMemor
     requires form { IsChainOfPrints program.now }
     ensures { IfOk result (λ c. c ≡ configuration.first (meaning_of program.now) setup.now) }
 {
-    let words = copies::values(alloc, setup.words.as_slice())?;
+    let words = setup.words.clone_in(alloc)?;
     Run::start(alloc, begin_prints(alloc, program), words)
 }
 
@@ -69,7 +67,7 @@ fn outcome_at(
     requires form { IsChainOfPrints program.now }
     ensures { IfOk result (λ it. it ≡ handle program.now (spec.call_of message.now (actor_of (name.now, state.now)) fresh.now)) }
 {
-    let args = known_values(alloc, message.args.as_slice())?;
+    let args = message.known_values(alloc)?;
     outcome_for(alloc, program, message, name, state, fresh, &args)
 }
 
@@ -148,5 +146,6 @@ pub fn play(
             return Err(PlayFault::BadStep(i));
         }
     }
-    Ok(run.config(alloc)?)
+    let authorities = setup.authorities.clone_in(alloc)?;
+    Ok(run.config(alloc, authorities)?)
 }

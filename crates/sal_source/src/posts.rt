@@ -5,7 +5,7 @@ ghost use Rattle.std.specs.List.{list_all};
 ghost use Rattle.sal_mail.specs.declared.message.Piece.TheVariants.{Known};
 ghost use Rattle.sal_source.specs.Posts as spec;
 
-use sal_mail::{Message, Piece, Reply, Target};
+use sal_mail::{Message, OUTPUT, Piece, Reply, Target};
 use sal_value::{List, Name, NoMemory, Uan, Value};
 use std::alloc::Global;
 
@@ -61,7 +61,7 @@ fn may_all_be_posted(args: &[Value]) -> bool
 pub fn fits_post(last: u64, number: u64, to: &Uan, behavior: u16, args: &[Value]) -> bool
     ensures { result ≡ spec.fits_post last number to.now behavior args.now }
 {
-    last < number && to.is_readable() && behavior != u16::MAX && may_all_be_posted(args)
+    last < number && to.is_readable() && behavior != OUTPUT && may_all_be_posted(args)
 }
 
 fn known(alloc: Global, args: &[Value]) -> Result<List<Piece>, NoMemory>

@@ -3,7 +3,7 @@
 ghost use Rattle.std.specs.Prelude.{◌≡◌, IfOk};
 ghost use Rattle.sal_source.specs.Step as spec;
 
-use sal_mail::{Message, Piece};
+use sal_mail::{Message, PRINTLN, Piece};
 use sal_value::{NoMemory, Text, Value};
 use std::alloc::Global;
 
@@ -42,7 +42,7 @@ pub fn printed(alloc: Global, message: &Message) -> Result<Text, NoMemory>
     ensures { IfOk result (λ text. text ≡ spec.printed message.now) }
 {
     let mut text = argument_text(alloc, message.args.as_slice())?;
-    if message.handler == 1 {
+    if message.handler == PRINTLN {
         text.push_str("\n")?;
     }
     Ok(text)

@@ -18,12 +18,13 @@ use crate::config::Config;
 use crate::creations::Creations;
 use crate::fresh::are_fresh;
 use crate::posts::{fits_post, post_message};
+use crate::printing;
 use crate::services::is_served;
 use crate::waiting::Waiting;
-use crate::{copies, messages, printing};
 use sal_handler::{Began, Outcome};
 use sal_mail::{
-    Actor, Answer, Creation, Effects, Fault, FaultKind, Join, Message, Piece, Reply, Target, Trap,
+    Actor, Answer, Creation, Effects, Fault, FaultKind, Join, MIGRATE, Message, OUTPUT, Piece,
+    Reply, Target, Trap,
 };
 use sal_value::{Authority, List, Name, NoMemory, Text, Uan, Value, Values};
 use std::alloc::Global;
@@ -130,7 +131,7 @@ fn changed(
 fn is_migrate(message: &Message) -> bool
     ensures { result ≡ spec.is_migrate message.now }
 {
-    message.behavior == u16::MAX && message.handler == u16::MAX
+    message.behavior == OUTPUT && message.handler == MIGRATE
 }
 
 fn understands(name: &Name, state: &ActorState, message: &Message) -> bool
@@ -224,7 +225,7 @@ fn bound_actor(alloc: Global, creation: &Creation) -> Result<Actor, NoMemory>
     Ok(Actor {
         name: Name::Uan(creation.name.clone_in(alloc)?),
         behavior: creation.behavior,
-        fields: copies::values(alloc, creation.fields.as_slice())?,
+        fields: creation.fields.clone_in(alloc)?,
     })
 }
 
@@ -296,9 +297,9 @@ impl Run {
         }
     }
 
-    /// The configuration to which the run has come.
-    pub fn config(self, alloc: Global) -> Result<Config, NoMemory>
-        ensures { IfOk result (λ c. c ≡ self) }
+    /// The configuration to which the run has come, with these naming services.
+    pub fn config(self, alloc: Global, authorities: List<Authority>) -> Result<Config, NoMemory>
+        ensures { IfOk result (λ c. c ≡ record { authorities = authorities; configuration = self }) }
     {
         let Run {
             actors,
@@ -310,6 +311,7 @@ impl Run {
             posted,
         } = self;
         Ok(Config {
+            authorities,
             actors: actors.listed(alloc)?,
             creations,
             waiting,
@@ -327,7 +329,7 @@ impl Run {
         let Some(message) = self.waiting.message(maker, serial) else {
             return Met::Nobody;
         };
-        if !messages::is_ready(message) {
+        if !message.is_ready() {
             return Met::Nobody;
         }
         let Target::Actor(name) = &message.target else {
@@ -554,7 +556,7 @@ impl Run {
         let Some(message) = waiting.take(maker, serial) else {
             return Ok(false);
         };
-        if !messages::is_ready(&message) || !is_output(&message.target) {
+        if !message.is_ready() || !is_output(&message.target) {
             return Ok(false);
         }
         self.print_out(alloc, waiting, message)?;

@@ -133,7 +133,7 @@ fn is_answered(alloc: Global, config: &Config) -> Result<bool, NoMemory> {
 
 #[test]
 fn a_join_waits_for_its_last_place(rt: HostRuntime) -> Result<(), Fail> {
-    let config = three_replies(rt.alloc())?.config(rt.alloc())?;
+    let config = three_replies(rt.alloc())?.config(rt.alloc(), List::new(rt.alloc()))?;
     assert!(rt; config.answers().is_empty());
     assert_eq!(rt; config.pending(), (1, 0, 1));
     Ok(())
@@ -143,7 +143,7 @@ fn a_join_waits_for_its_last_place(rt: HostRuntime) -> Result<(), Fail> {
 fn a_join_keeps_each_value_at_its_place(rt: HostRuntime) -> Result<(), Fail> {
     let mut run = three_replies(rt.alloc())?;
     assert!(rt; replies(rt.alloc(), &mut run, 4, 1)?);
-    let config = run.config(rt.alloc())?;
+    let config = run.config(rt.alloc(), List::new(rt.alloc()))?;
     assert!(rt; is_answered(rt.alloc(), &config)?);
     assert_eq!(rt; config.pending(), (0, 0, 0));
     Ok(())
@@ -173,7 +173,7 @@ fn given_again(alloc: Global) -> Result<Run, NoMemory> {
 
 #[test]
 fn a_reply_to_a_resolved_join_changes_nothing(rt: HostRuntime) -> Result<(), Fail> {
-    let config = given_again(rt.alloc())?.config(rt.alloc())?;
+    let config = given_again(rt.alloc())?.config(rt.alloc(), List::new(rt.alloc()))?;
     assert!(rt; is_answered(rt.alloc(), &config)?);
     assert_eq!(rt; config.answers().len(), 1);
     assert_eq!(rt; config.pending(), (4, 0, 0));
@@ -184,7 +184,7 @@ fn a_reply_to_a_resolved_join_changes_nothing(rt: HostRuntime) -> Result<(), Fai
 fn a_trap_leaves_its_fault_alone(rt: HostRuntime) -> Result<(), Fail> {
     let mut run = started(rt.alloc())?;
     assert!(rt; act(rt.alloc(), &mut run, Outcome::Trap(Trap::ZeroDivisor))?);
-    let config = run.config(rt.alloc())?;
+    let config = run.config(rt.alloc(), List::new(rt.alloc()))?;
     assert_eq!(rt; fault(&config), Some(FaultKind::Trap(Trap::ZeroDivisor)));
     assert_eq!(rt; config.pending(), (0, 0, 0));
     Ok(())
@@ -208,7 +208,7 @@ fn a_message_of_another_behavior_meets_no_handler(rt: HostRuntime) -> Result<(),
     let mut run = started(rt.alloc())?;
     assert!(rt; sends_to_other(rt.alloc(), &mut run)?);
     assert!(rt; replies(rt.alloc(), &mut run, 1, 1)?);
-    let config = run.config(rt.alloc())?;
+    let config = run.config(rt.alloc(), List::new(rt.alloc()))?;
     assert_eq!(rt; fault(&config), Some(FaultKind::NoHandler));
     assert!(rt; config.answers().is_empty());
     Ok(())
@@ -272,7 +272,7 @@ fn a_name_is_bound_once(rt: HostRuntime) -> Result<(), Fail> {
     assert!(rt; creates_twice(rt.alloc(), &mut run)?);
     assert!(rt; is_bound_once(rt.alloc(), &mut run)?);
     assert!(rt; run.refuse(rt.alloc(), &Name::Anon(0, 0), 2)?);
-    let config = run.config(rt.alloc())?;
+    let config = run.config(rt.alloc(), List::new(rt.alloc()))?;
     assert_eq!(rt; fault(&config), Some(FaultKind::NameTaken));
     assert_eq!(rt; config.actors().len(), 2);
     Ok(())
@@ -289,7 +289,7 @@ fn posts_have_rising_numbers(rt: HostRuntime) -> Result<(), Fail> {
     assert!(rt; !posts(rt.alloc(), &mut run, 0)?);
     assert!(rt; posts(rt.alloc(), &mut run, 1)?);
     assert!(rt; !posts(rt.alloc(), &mut run, 1)?);
-    let config = run.config(rt.alloc())?;
+    let config = run.config(rt.alloc(), List::new(rt.alloc()))?;
     assert_eq!(rt; config.pending(), (2, 0, 0));
     Ok(())
 }

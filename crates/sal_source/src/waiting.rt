@@ -16,7 +16,7 @@ ghost use Rattle.sal_source.specs.Changes.{listed, GivesOne, GivesNext, Settles,
 
 use crate::actors::Actors;
 use crate::open_joins::OpenJoins;
-use crate::{copies, joins, made, messages};
+use crate::{made, messages};
 use sal_mail::{Join, Message, Reply, Target};
 use sal_value::{List, Name, NoMemory, Value};
 use std::alloc::Global;
@@ -35,7 +35,7 @@ fn has_taker(to: &Target, actors: &Actors) -> bool
 fn is_possible(message: &Message, actors: &Actors) -> bool
     ensures { result ≡ possible.is_possible actors.now message.now }
 {
-    messages::is_ready(message) && has_taker(&message.target, actors)
+    message.is_ready() && has_taker(&message.target, actors)
 }
 
 fn some_possible(messages: &[Message], actors: &Actors) -> bool
@@ -84,7 +84,7 @@ impl Waiting {
     pub fn copied(&self, alloc: Global) -> Result<Waiting, NoMemory>
         ensures { IfOk result (λ copy. copy ≡ self.now) }
     {
-        let messages = copies::messages(alloc, self.messages.as_slice())?;
+        let messages = self.messages.clone_in(alloc)?;
         let joins = self.joins.copied(alloc)?;
         Ok(Waiting { messages, joins })
     }
@@ -123,7 +123,7 @@ impl Waiting {
         ensures ok { OnOk result (self.new ≡ record self.old { messages = step.put_message message self.old.messages }) }
         ensures err { OnErr result (self.new ≡ self.old) }
     {
-        made::put(&mut self.messages, messages::undelayed(message))
+        made::put(&mut self.messages, message.without_delay())
     }
 
     /// Puts the messages, from the last one on.
@@ -153,8 +153,8 @@ impl Waiting {
     ) -> Result<(), NoMemory>
         ensures { OnOk result (Opens owner.now join self.old self.new left.old left.new) }
     {
-        if joins::is_full(&join) {
-            left.push(joins::collected(alloc, join)?)
+        if join.is_full() {
+            left.push(join.into_reply(alloc)?)
         } else {
             self.put_join(owner.clone_in(alloc)?, join)
         }
@@ -203,12 +203,12 @@ impl Waiting {
         ensures waiting { OnOk result (self.new ≡ give.give_to (reply.Place owner number at) value self.old) }
         ensures gives { IfOk result (λ more. listed more ≡ give.gives_on (reply.Place owner number at) value self.old) }
     {
-        let Some((owner, join)) = self.joins.take(owner, number) else {
+        let Some((owner, mut join)) = self.joins.take(owner, number) else {
             return Ok(None);
         };
-        let join = joins::filled(join, at, value);
-        if joins::is_full(&join) {
-            return Ok(Some(joins::collected(alloc, join)?));
+        join.fill(at, value);
+        if join.is_full() {
+            return Ok(Some(join.into_reply(alloc)?));
         }
         self.put_join(owner, join)?;
         Ok(None)

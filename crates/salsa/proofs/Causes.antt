@@ -2,12 +2,12 @@
 use Rattle.std.proofs.Common.{◌≡◌, ℕ, List, [], Option, inl, inr, refl, arith, subst, ◌∙◌, take}
 use Rattle.sal_ast.specs.declared.program.Program.{Program}
 use Rattle.salsa.specs.Form.{Spells}
-use Rattle.salsa.specs.Outside.{Held, OnFile, Rose}
+use Rattle.salsa.specs.Outside.{Held, OnFile, Rose, Outside}
 use Rattle.salsa.specs.Top.{Ran, Judged, Puts, RunCause, status_line}
 use Rattle.salsa.proofs.Judging.{judged_first, on_file}
 
-module _ (status : ℕ) (held : Option Held) (name : List ℕ) (f g o p e d : ℕ) (oo on eo en : Option (List ℕ)) where
-  pub fault_cause : Rose f g → Puts 5 (status_line 5) status e d eo en → on ≡ oo → RunCause status held name f g o p e d oo on eo en
+module _ (status : ℕ) (name : List ℕ) (before after : Outside) where
+  pub fault_cause : Rose (before.files.faults name) (after.files.faults name) → Puts 5 (status_line 5) status before.err after.err → after.out ≡ before.out → RunCause status name before after
   fault_cause rose puts same = record {
     wanted = 5;
     known = inr (inr (inl refl));
@@ -19,7 +19,7 @@ module _ (status : ℕ) (held : Option Held) (name : List ℕ) (f g o p e d : �
     told = λ _. (puts, same);
   }
 
-  pub memory_cause : Puts 7 (status_line 7) status e d eo en → on ≡ oo → RunCause status held name f g o p e d oo on eo en
+  pub memory_cause : Puts 7 (status_line 7) status before.err after.err → after.out ≡ before.out → RunCause status name before after
   memory_cause puts same = record {
     wanted = 7;
     known = inr (inr (inr refl));
@@ -31,7 +31,7 @@ module _ (status : ℕ) (held : Option Held) (name : List ℕ) (f g o p e d : �
     told = λ _. (puts, same);
   }
 
-  pub refused_cause : OnFile held name (λ whole. (program : Program) → Spells whole program → ⊥) → Puts 2 (status_line 2) status e d eo en → on ≡ oo → RunCause status held name f g o p e d oo on eo en
+  pub refused_cause : OnFile before.files.held name (λ whole. (program : Program) → Spells whole program → ⊥) → Puts 2 (status_line 2) status before.err after.err → after.out ≡ before.out → RunCause status name before after
   refused_cause none puts same = record {
     wanted = 2;
     known = inr (inl refl);
@@ -43,7 +43,7 @@ module _ (status : ℕ) (held : Option Held) (name : List ℕ) (f g o p e d : �
     told = λ _. (puts, same);
   }
 
-  pub ran_cause : (output : List ℕ) → OnFile held name (λ whole. Ran whole output) → Puts 0 output status o p oo on → en ≡ eo → RunCause status held name f g o p e d oo on eo en
+  pub ran_cause : (output : List ℕ) → OnFile before.files.held name (λ whole. Ran whole output) → Puts 0 output status before.out after.out → after.err ≡ before.err → RunCause status name before after
   ran_cause output ran puts same = record {
     wanted = 0;
     known = inl refl;

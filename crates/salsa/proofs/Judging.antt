@@ -58,6 +58,7 @@ ran_is text program setup steps config output law sp s t e o =
       is_run = ap (λ p. play p run_setup (trace (length sp.outline.prints))) sp.is ∙ r.is_run;
       texts = r.output;
       output_is = o ∙ ap (λ (d : Configuration). joined d.output) same;
+      faults = r.faults;
       final = subst F (sym sp.is) r.final;
     }
 

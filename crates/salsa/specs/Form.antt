@@ -6,6 +6,8 @@ use Rattle.sal_ast.specs.declared.program.Ident.{Ident}
 use Rattle.sal_ast.specs.declared.program.Program.{Program}
 use Rattle.sal_handler.specs.Prints.{Print, Outline, program_of}
 use Rattle.salsa.specs.Tokens.{Token, Cut, is_identifier}
+use Rattle.sal_ast.specs.declared.constants.TheConstants.{LONGEST_PROGRAM}
+use Rattle.sal_handler.specs.declared.constants.TheConstants.{MOST_MADE}
 
 -- a word or sign of the grammar, whose place the tree doesn't hold
 abbrev pub word : List ℕ → Token
@@ -73,9 +75,9 @@ pub record Outlines (o : Outline) (text : List ℕ) : Type 0 where
   pub name : is_identifier o.name.text ≡ true
   pub words : is_identifier o.words.text ≡ true
   pub prints : ArePrints o.prints
-  pub few : length o.prints ≤ 1024
+  pub few : length o.prints ≤ MOST_MADE
   pub utf8 : IsUtf8 text
-  pub short : length text ≤ 262144
+  pub short : length text ≤ LONGEST_PROGRAM
   pub cut : Cut (program_tokens o) 0 text
 
 -- the text spells this program, which is one chain of prints

@@ -10,6 +10,26 @@ Rose before now = min (before + 1) (2 ^ 64 - 1) ≤ now
 abbrev pub Held : Type 0
 Held = List ℕ → Option (List ℕ)
 
+-- what is held under each name, where it is told, and a count of faults for each name, which never falls
+pub record FilesState : Type 0 where
+  pub held : Option Held
+  pub faults : List ℕ → ℕ
+
+-- the bytes taken, where they are told, and a count of faults, which never falls
+pub record SinkState : Type 0 where
+  pub taken : Option (List ℕ)
+  pub faults : ℕ
+
+-- all that lies outside the program
+pub record Outside : Type 0 where
+  pub files : FilesState
+  pub out : SinkState
+  pub err : SinkState
+
+-- the files, `out` and `err`
+abbrev pub outside : FilesState → SinkState → SinkState → Outside
+outside files out err = record { files = files; out = out; err = err }
+
 -- a fact about the bytes under a name, where they are told and there
 abbrev pub OnFile : Option Held → List ℕ → (List ℕ → Type 0) → Type 0
 OnFile None name P = Unit {0}

@@ -11,12 +11,9 @@ mod pieces;
 use chains::read_stages;
 use heads::{Head, make_words, read_head};
 use pieces::{after_sign, as_text, make_ident, skip_blanks};
-use sal_ast::{Behavior, Chain, Ident, Member, Program, Stage, Stmt};
+use sal_ast::{Behavior, Chain, Ident, LONGEST_PROGRAM, Member, Program, Stage, Stmt};
 use sal_value::{List, NoMemory, Text};
 use std::alloc::Global;
-
-/// The most bytes of a program.
-const MOST: usize = 262_144;
 
 /// Whether the text ends with two closing braces.
 #[tactic(auto, unfolding(crate::specs::Reading::is_end))]
@@ -110,7 +107,7 @@ fn read_program(alloc: Global, whole: usize, text: &[u8]) -> Result<Option<Progr
 fn read_whole(alloc: Global, text: &[u8]) -> Result<Option<Program>, NoMemory>
     ensures { IfOk result (λ program. program ≡ form_read text.now) }
 {
-    if text.len() > MOST {
+    if text.len() > LONGEST_PROGRAM {
         return Ok(None);
     }
     match as_text(text) {

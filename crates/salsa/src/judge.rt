@@ -4,7 +4,7 @@ ghost use Rattle.salsa.specs.Top.{Judged, joined, run_setup};
 
 use crate::form::read_form;
 use sal_source::{Config, PlayFault, Setup, chains_of_prints_run, play, trace_of};
-use sal_value::{Authority, List, NoMemory, Text};
+use sal_value::{Authority, List, NAME_PORT, NoMemory, Text};
 use std::alloc::Global;
 
 /// One naming service, and no words.
@@ -14,7 +14,7 @@ fn run_setup(alloc: Global) -> Result<Setup, NoMemory>
     let mut authorities = List::new(alloc);
     authorities.push(Authority {
         host: Text::from_text(alloc, "localhost")?,
-        port: 3030,
+        port: NAME_PORT,
     })?;
     Ok(Setup {
         authorities,
@@ -35,7 +35,7 @@ fn joined(alloc: Global, texts: &[Text]) -> Result<List<u8>, NoMemory>
 
 /// The texts that a run has put out, in one piece.
 fn whole_output(alloc: Global, config: &Config) -> Result<List<u8>, NoMemory>
-    ensures { IfOk result (λ bytes. bytes ≡ joined config.now.output) }
+    ensures { IfOk result (λ bytes. bytes ≡ joined config.now.configuration.output) }
 {
     joined(alloc, config.output().as_slice())
 }

@@ -92,7 +92,8 @@ fn put_first(
     name: &Text,
     bytes: &[u8],
 ) -> Result<(), NoMemory>
-    ensures ok { OnOk result (entries.new ≡ record { name = name.now; bytes = bytes.now } ∷ entries.old) }
+    ensures ok { OnOk result
+        (entries.new ≡ record { name = name.now; bytes = bytes.now } ∷ entries.old) }
     ensures err { OnErr result (entries.new ≡ entries.old) }
 {
     let name = name.clone_in(alloc)?;
@@ -107,7 +108,8 @@ fn first_bytes(
     name: &Text,
     most: usize,
 ) -> Result<List<u8>, OutsideFault>
-    ensures bytes { IfOk result (λ bytes. OnFile (Some (held_of entries.now)) name.now (λ whole. bytes ≡ take most whole)) }
+    ensures bytes { IfOk result (λ bytes. OnFile (Some (held_of entries.now)) name.now (λ whole.
+        bytes ≡ take most whole)) }
     ensures failed { IsErrOf result OutsideFault.Failed ↔ (held_of entries.now name.now ≡ None) }
 {
     match bytes_of(entries, name) {
@@ -136,18 +138,19 @@ impl MemFiles {
 }
 
 impl Files for MemFiles {
-    ghost held = { λ s. Some (held_of s.entries) };
-
-    ghost faults = { λ s _. s.faults };
+    ghost state = { λ s. record { held = Some (held_of s.entries); faults = λ _. s.faults } };
 
     fn read(&mut self, alloc: Global, name: &Text, most: usize) -> Result<List<u8>, OutsideFault>
         ensures within { IfOk result (λ bytes. length bytes ≤ most) }
-        ensures bytes { IfOk result (λ bytes. OnFile (Some (held_of self.old.entries)) name.now (λ whole. bytes ≡ take most whole)) }
+        ensures bytes { IfOk result (λ bytes.
+            OnFile (Some (held_of self.old.entries)) name.now (λ whole. bytes ≡ take most whole)) }
         ensures kept { self.new.entries ≡ self.old.entries }
-        ensures fails { IsErrOf result OutsideFault.Failed ↔ (IsTrue (is_listed self.old.calls) ⊎ (held_of self.old.entries name.now ≡ None)) }
+        ensures fails { IsErrOf result OutsideFault.Failed ↔
+            (IsTrue (is_listed self.old.calls) ⊎ (held_of self.old.entries name.now ≡ None)) }
         ensures next { self.new.calls ≡ after_one self.old.calls }
         ensures later { self.old.faults ≤ self.new.faults }
-        ensures faults { self.new.faults ≡ (if is_failed result then one_more self.old.faults else self.old.faults) }
+        ensures faults { self.new.faults ≡
+            (if is_failed result then one_more self.old.faults else self.old.faults) }
     {
         let answer = if self.calls.fails() {
             Err(OutsideFault::Failed)
@@ -161,12 +164,14 @@ impl Files for MemFiles {
     }
 
     fn write(&mut self, name: &Text, bytes: &[u8]) -> Result<(), Failed>
-        ensures ok { OnOk result (self.new.entries ≡ record { name = name.now; bytes = bytes.now } ∷ self.old.entries) }
+        ensures ok { OnOk result
+            (self.new.entries ≡ record { name = name.now; bytes = bytes.now } ∷ self.old.entries) }
         ensures err { OnErr result (self.new.entries ≡ self.old.entries) }
         ensures fails { IsTrue (is_listed self.old.calls) → IsErr result }
         ensures next { self.new.calls ≡ after_one self.old.calls }
         ensures later { self.old.faults ≤ self.new.faults }
-        ensures faults { self.new.faults ≡ (if is_err result then one_more self.old.faults else self.old.faults) }
+        ensures faults { self.new.faults ≡
+            (if is_err result then one_more self.old.faults else self.old.faults) }
     {
         if !self.calls.fails() && put_first(self.alloc, &mut self.entries, name, bytes).is_ok() {
             return Ok(());
@@ -192,9 +197,7 @@ impl MemSink {
 }
 
 impl Sink for MemSink {
-    ghost taken = { λ s. Some s.taken };
-
-    ghost faults = { λ s. s.faults };
+    ghost state = { λ s. record { taken = Some s.taken; faults = s.faults } };
 
     fn put(&mut self, bytes: &[u8]) -> Result<(), Failed>
         ensures ok { OnOk result (self.new.taken ≡ self.old.taken ++ bytes.now) }
@@ -203,7 +206,8 @@ impl Sink for MemSink {
         ensures fails { bytes.now ≢ [] → IsTrue (is_listed self.old.calls) → IsErr result }
         ensures next { bytes.now ≢ [] → self.new.calls ≡ after_one self.old.calls }
         ensures later { self.old.faults ≤ self.new.faults }
-        ensures faults { self.new.faults ≡ (if is_err result then one_more self.old.faults else self.old.faults) }
+        ensures faults { self.new.faults ≡
+            (if is_err result then one_more self.old.faults else self.old.faults) }
     {
         if bytes.is_empty() {
             return Ok(());

@@ -46,7 +46,8 @@ fn read_most<S: Read + Drop>(
     most: usize,
 ) -> Result<List<u8>, OutsideFault>
     ensures within { IfOk result (λ bytes. length bytes ≤ most) }
-    ensures bytes { IfOk result (λ bytes. IfSome (S.remaining source) (λ whole. bytes ≡ take most whole)) }
+    ensures bytes { IfOk result (λ bytes. IfSome (S.remaining source) (λ whole.
+        bytes ≡ take most whole)) }
 {
     let mut bytes: Vec<u8> = Vec::new(alloc);
     let mut first = source.take(most as u64);
@@ -87,9 +88,7 @@ fn write_file<R: rt::Files>(system: &R, name: &Text, bytes: &[u8]) -> bool {
 }
 
 impl<R: rt::Files + Drop> Files for RealFiles<R> {
-    ghost held = { λ _. None };
-
-    ghost faults = { λ s _. s.faults };
+    ghost state = { λ s. record { held = None; faults = λ _. s.faults } };
 
     fn read(&mut self, alloc: Global, name: &Text, most: usize) -> Result<List<u8>, OutsideFault> {
         let answer = read_file(alloc, &self.system, name, most);
@@ -109,12 +108,11 @@ impl<R: rt::Files + Drop> Files for RealFiles<R> {
 }
 
 impl<W: Write + Drop> Sink for RealSink<W> {
-    ghost taken = { λ _. None };
-
-    ghost faults = { λ s. s.faults };
+    ghost state = { λ s. record { taken = None; faults = s.faults } };
 
     fn put(&mut self, bytes: &[u8]) -> Result<(), Failed>
-        ensures written { OnOk result (Appends (W.contents self.old.stream) (W.contents self.new.stream) bytes.now) }
+        ensures written { OnOk result
+            (Appends (W.contents self.old.stream) (W.contents self.new.stream) bytes.now) }
         ensures later { self.old.faults ≤ self.new.faults }
         ensures failed { OnErr result (Rose self.old.faults self.new.faults) }
         ensures nothing { OnErr result (bytes.now ≢ []) }

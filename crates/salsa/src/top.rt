@@ -1,19 +1,21 @@
 //! The top call.
 ghost use Rattle.std.specs.Prelude.{◌≡◌, ◌≢◌, None};
+ghost use Rattle.salsa.specs.Outside.{outside};
 ghost use Rattle.salsa.specs.Top.{run_name, OnRunName, Puts, RunCause, Usage};
 
 use crate::judge::judged;
 use crate::outside::{Failed, Files, OutsideFault, Sink};
+use sal_ast::LONGEST_PROGRAM;
 use sal_value::{NoMemory, Text};
 use std::alloc::Global;
 
 /// One byte more than a program may have, which tells a program that is too long.
-const READ: usize = 262_145;
+const READ: usize = LONGEST_PROGRAM + 1;
 
 /// Puts the bytes into the sink, and answers the status, or 6 where the sink failed.
 pub fn put<S: Sink>(sink: &mut S, bytes: &[u8], status: u8) -> u8
     requires { status ≢ 6 }
-    ensures { Puts status bytes.now result (S.faults sink.old) (S.faults sink.new) (S.taken sink.old) (S.taken sink.new) }
+    ensures { Puts status bytes.now result (S.state sink.old) (S.state sink.new) }
 {
     match sink.put(bytes) {
         Ok(()) => status,
@@ -28,8 +30,10 @@ fn run<F: Files, O: Sink, E: Sink>(
     out: &mut O,
     err: &mut E,
 ) -> u8
-    ensures cause { RunCause result (F.held files.old) name.now (F.faults files.old name.now) (F.faults files.new name.now) (O.faults out.old) (O.faults out.new) (E.faults err.old) (E.faults err.new) (O.taken out.old) (O.taken out.new) (E.taken err.old) (E.taken err.new) }
-    ensures files { F.held files.new ≡ F.held files.old }
+    ensures cause { RunCause result name.now
+        (outside (F.state files.old) (O.state out.old) (E.state err.old))
+        (outside (F.state files.new) (O.state out.new) (E.state err.new)) }
+    ensures files { (F.state files.new).held ≡ (F.state files.old).held }
 {
     let bytes = match files.read(alloc, name, READ) {
         Ok(bytes) => bytes,
@@ -51,9 +55,13 @@ pub fn salsa<F: Files, O: Sink, E: Sink>(
     out: &mut O,
     err: &mut E,
 ) -> u8
-    ensures usage { run_name words.now ≡ None → Usage result (E.faults err.old) (E.faults err.new) (O.taken out.old) (O.taken out.new) (E.taken err.old) (E.taken err.new) }
-    ensures run { OnRunName (run_name words.now) (λ name. RunCause result (F.held files.old) name (F.faults files.old name) (F.faults files.new name) (O.faults out.old) (O.faults out.new) (E.faults err.old) (E.faults err.new) (O.taken out.old) (O.taken out.new) (E.taken err.old) (E.taken err.new)) }
-    ensures files { F.held files.new ≡ F.held files.old }
+    ensures usage { run_name words.now ≡ None →
+        Usage result (outside (F.state files.old) (O.state out.old) (E.state err.old))
+        (outside (F.state files.new) (O.state out.new) (E.state err.new)) }
+    ensures run { OnRunName (run_name words.now) (λ name.
+        RunCause result name (outside (F.state files.old) (O.state out.old) (E.state err.old))
+        (outside (F.state files.new) (O.state out.new) (E.state err.new))) }
+    ensures files { (F.state files.new).held ≡ (F.state files.old).held }
 {
     match words {
         [command, name] => {

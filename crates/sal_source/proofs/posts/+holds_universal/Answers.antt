@@ -1,7 +1,7 @@
 use Rattle.std.proofs.Common.{sym, ◌∙◌}
 use Rattle.sal_source.specs.Posts.{holds_universal}
 use Rattle.sal_source.proofs.Universal.{array_holds}
-use Rattle.sal_source.proofs.Loops.{all_stops, all_ends}
+use Rattle.sal_value.proofs.Loops.{all_stops, all_ends}
 use Rattle.sal_source.proofs.posts.+holds_universal.Goals as goal
 
 pub returns-then-not-holds_universal : goal.returns-then-not-holds_universal

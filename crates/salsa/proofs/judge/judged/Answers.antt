@@ -9,8 +9,8 @@ use Rattle.salsa.proofs.judge.judged.Goals as goal
 pub returns-in-Ok : goal.returns-in-Ok
 returns-in-Ok c =
     let spells : Spells c.args.text.now c.in-Some.program = subst (λ (o : Option Program). Read c.args.text.now o) c.in-Some.is c.in_ok-program.ensures in
-    ran_is c.args.text.now c.in-Some.program c.in_ok-setup.setup c.as_slice.result.now c.in-Ok.config c.in_ok-whole_output-in-Ok.field-0 c.chains_of_prints_run.ensures spells c.in_ok-setup.ensures
-    (c.as_slice.ensures ∙ c.in_ok-trace.ensures) c.in-Ok.ensures c.in_ok-whole_output-in-Ok.ensures
+    ran_is c.args.text.now c.in-Some.program c.in_ok-setup.setup c.as_slice.result.now c.in-Ok.config.configuration c.in_ok-whole_output-in-Ok.field-0 c.chains_of_prints_run.ensures spells c.in_ok-setup.ensures
+    (c.as_slice.ensures ∙ c.in_ok-trace.ensures) c.in-Ok.ensures.0 c.in_ok-whole_output-in-Ok.ensures
 
 pub unreachable-requires : goal.unreachable-requires
 unreachable-requires c =

@@ -1,6 +1,0 @@
-use Rattle.std.proofs.Common.{◌≡◌}
-use Rattle.sal_mail.specs.Message.{present}
-use Rattle.sal_source.proofs.joins.all_places.Given as goal
-
-abbrev pub invariant-loop-place : goal.invariant-loop-place
-invariant-loop-place l = l.values ≡ present l.yielded

@@ -1,6 +1,0 @@
-use Rattle.std.proofs.Common.{◌≡◌, take}
-use Rattle.sal_mail.specs.Message.{known_values}
-use Rattle.sal_source.proofs.messages.known_values.Given as goal
-
-abbrev pub invariant-loop-piece : goal.invariant-loop-piece
-invariant-loop-piece l = l.values ≡ known_values (take l.piece-index l.pieces)
