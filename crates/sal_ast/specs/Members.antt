@@ -9,6 +9,7 @@ use Rattle.sal_ast.specs.declared.program.Param.{Param}
 use Rattle.sal_ast.specs.declared.program.Member.{Member}
 use Rattle.sal_ast.specs.declared.program.Member.TheVariants as member
 use Rattle.sal_ast.specs.declared.program.Behavior.{Behavior}
+use Rattle.sal_value.specs.declared.constants.TheConstants.{RESERVED}
 
 -- a field: its name, its type, and its initialiser, if it has one
 pub record Field : Type 0 where
@@ -59,7 +60,7 @@ constructor_of b = slice_get (filter_map as_constructor b.members) 0
 -- stands for the output and for `migrate`.
 abbrev pub numbered : Option ℕ → Option ℕ
 numbered None = None
-numbered (Some n) = if nat_lt n 65535 then Some n else None
+numbered (Some n) = if nat_lt n RESERVED then Some n else None
 
 -- the number of the first behaviour of this name
 unfoldable pub behavior_named : List ℕ → List Behavior → Option ℕ

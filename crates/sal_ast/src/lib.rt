@@ -2,6 +2,7 @@
 //! repetitions, and in `at` the byte of a form's first token.
 #![tactic(auto)]
 
+mod constants;
 mod depth;
 mod expression;
 mod law;
@@ -13,6 +14,7 @@ mod statement;
 #[cfg(test)]
 mod tests;
 
+pub use constants::LONGEST_PROGRAM;
 pub use expression::{At, Expr, Op, Operand, Suffix};
 pub use law::{brackets_are_closed, prefix_signs_are_bounded, spellings_are_not_empty};
 pub use lexeme::{Kind, Lexeme};

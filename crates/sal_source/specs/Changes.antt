@@ -2,7 +2,7 @@
 use Rattle.std.specs.Prelude.{◌≡◌, ℕ, Bool, true, false, List, [], ◌∷◌, ◌++◌, reverse, Option, Some, None, Result, Ok, Err, if◌then◌else◌}
 use Rattle.sal_value.specs.declared.name.Name.{Name}
 use Rattle.sal_value.specs.declared.value.Value.{Value}
-use Rattle.sal_value.specs.declared.text.NoMemory.{NoMemory}
+use Rattle.sal_value.specs.declared.no_memory.NoMemory.{NoMemory}
 use Rattle.sal_mail.specs.declared.message.Join.{Join}
 use Rattle.sal_mail.specs.Message.{is_full}
 use Rattle.sal_source.specs.Configuration.{Waiting, Configuration}

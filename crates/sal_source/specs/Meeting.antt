@@ -4,7 +4,7 @@ use Rattle.std.specs.FinSet as fs
 use Rattle.sal_value.specs.declared.name.Name.{Name}
 use Rattle.sal_value.specs.declared.value.Value.{Value}
 use Rattle.sal_value.specs.declared.value.Value.TheVariants.{Null}
-use Rattle.sal_value.specs.declared.text.NoMemory.{NoMemory}
+use Rattle.sal_value.specs.declared.no_memory.NoMemory.{NoMemory}
 use Rattle.std.specs.Prelude.{Bool}
 use Rattle.sal_mail.specs.declared.message.Message.{Message}
 use Rattle.sal_mail.specs.declared.message.Join.{Join}

@@ -8,4 +8,5 @@ pub mod Sound
 pub mod Steps
 pub mod Complete
 pub mod OneAnswer
+pub mod SomeAnswer
 pub mod Stood

@@ -1,9 +1,10 @@
--- A text has one answer at most.
-use Rattle.std.specs.Prelude.{◌≡◌, ℕ, ◌≤◌, List, length}
+-- A text has one answer: tokens that cover it, or a refusal.
+use Rattle.std.specs.Prelude.{◌≡◌, ℕ, ◌≤◌, List, length, ◌⊎◌}
 use Rattle.sal_text.specs.declared.token.LexRule.{LexRule}
 use Rattle.sal_text.specs.declared.token.Token.{Token}
 use Rattle.sal_text.specs.Tokens.{Covers}
 use Rattle.sal_text.specs.Refusals.{Refuses}
+use Rattle.sal_ast.specs.declared.constants.TheConstants.{LONGEST_PROGRAM}
 
 -- no two lists of tokens cover a text
 abbrev pub OneCover : Type 0
@@ -11,7 +12,11 @@ OneCover = (text : List ℕ) (tokens others : List Token) → Covers text tokens
 
 -- a text of at most 262,144 bytes that tokens cover has no refusal
 abbrev pub NoneOfBoth : Type 0
-NoneOfBoth = (text : List ℕ) (tokens : List Token) (rule : LexRule) (at : ℕ) → length text ≤ 262144 → Covers text tokens → Refuses rule at text → ⊥
+NoneOfBoth = (text : List ℕ) (tokens : List Token) (rule : LexRule) (at : ℕ) → length text ≤ LONGEST_PROGRAM → Covers text tokens → Refuses rule at text → ⊥
+
+-- a text is covered by tokens, or it is refused
+abbrev pub CoveredOrRefused : Type 0
+CoveredOrRefused = (text : List ℕ) → ((tokens : List Token) × Covers text tokens) ⊎ ((rule : LexRule) × ((at : ℕ) × Refuses rule at text))
 
 -- a text has one refusal at most, by one rule
 abbrev pub OneRefusal : Type 0

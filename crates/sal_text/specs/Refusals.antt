@@ -9,13 +9,14 @@ use Rattle.sal_text.specs.declared.token.LexFault.{LexFault}
 use Rattle.sal_text.specs.declared.token.LexFault.TheVariants as fault
 use Rattle.sal_text.specs.Values.{bad_escape}
 use Rattle.sal_text.specs.Tokens.{is_blank, is_digits, is_string, is_form, IsLongest, holds_end, Part, Cuts, begins}
+use Rattle.sal_ast.specs.declared.constants.TheConstants.{LONGEST_PROGRAM}
 
 -- the text has too many bytes, the first of them at 262,144, or it isn't UTF-8, and this is the first byte of
 -- the first ill-formed sequence
 abbrev pub IsNoText : List ℕ → ℕ → Type 0
 IsNoText text at =
-    ((262144 < length text) × (at ≡ 262144))
-    ⊎ ((length text ≤ 262144) × ((IsUtf8 text → ⊥) × (at ≡ utf8_valid_len text)))
+    ((LONGEST_PROGRAM < length text) × (at ≡ LONGEST_PROGRAM))
+    ⊎ ((length text ≤ LONGEST_PROGRAM) × ((IsUtf8 text → ⊥) × (at ≡ utf8_valid_len text)))
 
 -- a character that is no blank and no quote, with which no token begins
 pub record IsStrange (text : List ℕ) : Type 0 where
@@ -61,7 +62,7 @@ Violates rule.L5 rest place = IsBadString rest place
 
 -- the text is cut into good parts as far as they go, and what is left begins with a violation
 pub record IsCutShort (rule : LexRule) (at : ℕ) (text : List ℕ) : Type 0 where
-  pub fits : length text ≤ 262144
+  pub fits : length text ≤ LONGEST_PROGRAM
   pub utf8 : IsUtf8 text
   pub parts : List Part
   pub rest : List ℕ

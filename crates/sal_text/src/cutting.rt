@@ -8,12 +8,10 @@ ghost use Rattle.sal_text.specs.Found.{Found};
 
 use crate::piece::{Piece, piece_of};
 use crate::token::{LexFault, LexRule, Token, Tokens};
+use sal_ast::LONGEST_PROGRAM;
 use sal_value::List;
 use std::alloc::Global;
 use std::str;
-
-/// The most bytes of a text.
-const MOST: usize = 262_144;
 
 /// The part of a text at a byte.
 #[tactic(auto, using(crate::proofs::Sound::found_behind))]
@@ -25,7 +23,7 @@ fn part_at(source: &[u8], at: usize) -> Piece
 }
 
 fn cut(alloc: Global, source: &[u8]) -> Result<List<Token>, LexFault>
-    requires short { length source.now ≤ 262144 }
+    requires short { length source.now ≤ LONGEST_PROGRAM }
     requires utf8 { IsUtf8 source.now }
     ensures tokens { IfOk result (Covers source.now) }
     ensures refused { IfErr result (IsRefusal source.now) }
@@ -56,14 +54,14 @@ fn cut(alloc: Global, source: &[u8]) -> Result<List<Token>, LexFault>
 /// The tokens of a text, or its first refusal.
 pub fn lex(alloc: Global, source: &[u8]) -> Result<Tokens<'_>, LexFault>
     ensures source { IfOk result (λ tokens. tokens.source.now ≡ source.now) }
-    ensures short { IfOk result (λ tokens. length source.now ≤ 262144) }
+    ensures short { IfOk result (λ tokens. length source.now ≤ LONGEST_PROGRAM) }
     ensures tokens { IfOk result (λ tokens. Covers source.now tokens.items) }
     ensures refused { IfErr result (IsRefusal source.now) }
 {
-    if source.len() > MOST {
+    if source.len() > LONGEST_PROGRAM {
         return Err(LexFault::Refused {
             rule: LexRule::L0,
-            at: MOST as u32,
+            at: LONGEST_PROGRAM as u32,
         });
     }
     if let Err(fault) = str::from_utf8(source) {

@@ -1,6 +1,6 @@
 //! What holds of every text.
 
-ghost use Rattle.sal_text.specs.Answered.{OneCover, NoneOfBoth, OneRefusal};
+ghost use Rattle.sal_text.specs.Answered.{OneCover, CoveredOrRefused, NoneOfBoth, OneRefusal};
 ghost use Rattle.sal_text.specs.Standing.{TokensStand, SpansAreInside};
 
 /// No two lists of tokens cover a text.
@@ -8,8 +8,13 @@ pub fn one_list_covers()
     ensures { OneCover }
 {}
 
-/// A text that is covered isn't refused.
+/// Tokens cover a text, or it is refused.
 pub fn covered_or_refused()
+    ensures { CoveredOrRefused }
+{}
+
+/// A text that is covered isn't refused.
+pub fn covered_is_not_refused()
     ensures { NoneOfBoth }
 {}
 

@@ -16,6 +16,7 @@ mod words;
 
 pub use cutting::lex;
 pub use laws::{
-    covered_or_refused, one_list_covers, one_refusal_stands, spans_are_inside, tokens_stand,
+    covered_is_not_refused, covered_or_refused, one_list_covers, one_refusal_stands,
+    spans_are_inside, tokens_stand,
 };
 pub use token::{LexFault, LexRule, Token, Tokens};

@@ -9,6 +9,7 @@ use Rattle.sal_value.specs.declared.name.Uan.{Uan}
 use Rattle.sal_value.specs.declared.name.Ual.{Ual}
 use Rattle.sal_value.specs.declared.name.NameFault.{NameFault}
 use Rattle.sal_value.specs.declared.name.NameFault.TheVariants as fault
+use Rattle.sal_value.specs.declared.constants.TheConstants.{NAME_PORT, LOCATOR_PORT}
 
 -- ---- canonical texts
 
@@ -85,10 +86,10 @@ is_ual_path [] = true
 is_ual_path (slash ∷ path) = is_path path
 
 abbrev pub name_kind : Kind
-name_kind = record { scheme = codes "uan://"; usual = 3030; path = is_uan_path }
+name_kind = record { scheme = codes "uan://"; usual = NAME_PORT; path = is_uan_path }
 
 abbrev pub locator_kind : Kind
-locator_kind = record { scheme = codes "rmsp://"; usual = 4040; path = is_ual_path }
+locator_kind = record { scheme = codes "rmsp://"; usual = LOCATOR_PORT; path = is_ual_path }
 
 -- texts of this scheme, whatever their paths
 abbrev pub any_path : List ℕ → ℕ → Kind

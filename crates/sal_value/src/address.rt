@@ -4,7 +4,8 @@ ghost use Rattle.std.specs.Prelude.{◌≡◌, ◌≤◌, ◌+◌, ◌%◌, ◌+
 ghost use Rattle.std.specs.Fmt.{decimal};
 ghost use Rattle.sal_value.specs.Names.{address_text};
 
-use crate::text::{NoMemory, Text};
+use crate::no_memory::NoMemory;
+use crate::text::Text;
 use std::alloc::Global;
 
 /// Adds `host:port`, the host in lower case.

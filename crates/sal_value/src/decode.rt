@@ -8,7 +8,7 @@ ghost use Rattle.sal_value.specs.Reads.{Gives, Decodes};
 use crate::fields::{self, Fault};
 use crate::list::List;
 use crate::name::{Name, NameFault, Uan};
-use crate::text::NoMemory;
+use crate::no_memory::NoMemory;
 use crate::value::{DecodeFault, Value};
 use std::alloc::Global;
 

@@ -7,7 +7,7 @@ ghost use Rattle.sal_value.specs.Spelling.{anon_bytes, text_bytes, name_spelling
 use crate::address::between;
 use crate::list::List;
 use crate::name::{Name, Uan};
-use crate::text::NoMemory;
+use crate::no_memory::NoMemory;
 use crate::value::Value;
 use std::alloc::Global;
 

@@ -5,7 +5,8 @@ ghost use Rattle.std.specs.Int.{w16, w32, w64};
 ghost use Rattle.sal_value.specs.Decoding.{byte_at, bytes_at, number_at, bool_at, text_at};
 ghost use Rattle.sal_value.specs.Reads.{Gives};
 
-use crate::text::{NoMemory, Text};
+use crate::no_memory::NoMemory;
+use crate::text::Text;
 use std::alloc::Global;
 
 /// Why a reading stops.

@@ -1,7 +1,8 @@
 ghost use Rattle.std.specs.Prelude.{◌≡◌, IfOk};
 
 use crate::address::push_address;
-use crate::text::{NoMemory, Text};
+use crate::no_memory::NoMemory;
+use crate::text::Text;
 use std::alloc::Global;
 use thiserror::Error;
 

@@ -7,8 +7,10 @@ ghost use Rattle.std.specs.Fmt.{decimal};
 ghost use Rattle.std.specs.Str.{IsAscii};
 ghost use Rattle.sal_value.specs.Names.{lowered, is_host_byte, is_host as good_host, is_path_byte, is_path as good_path, is_uan_path, is_ual_path, NonePass, FirstPasses, ends_host, is_colon, is_slash, Parts, Written, any_path, IsPort, Refused, ReadsUan, ReadsUal};
 
+use crate::constants::{LOCATOR_PORT, NAME_PORT};
 use crate::name::{NameFault, Ual, Uan};
-use crate::text::{NoMemory, Text};
+use crate::no_memory::NoMemory;
+use crate::text::Text;
 use std::alloc::Global;
 
 /// What stands behind a scheme: the port with its `:`, the path with its `/`.
@@ -272,7 +274,7 @@ impl Uan {
     pub fn read(alloc: Global, bytes: &[u8]) -> Result<Uan, NameFault>
         ensures { ReadsUan bytes.now result }
     {
-        let address = read_address(bytes, b"uan://", 3030)?;
+        let address = read_address(bytes, b"uan://", NAME_PORT)?;
         if !is_uan_path(address.path) {
             return Err(NameFault::Path);
         }
@@ -291,7 +293,7 @@ impl Ual {
     pub fn read(alloc: Global, bytes: &[u8]) -> Result<Ual, NameFault>
         ensures { ReadsUal bytes.now result }
     {
-        let address = read_address(bytes, b"rmsp://", 4040)?;
+        let address = read_address(bytes, b"rmsp://", LOCATOR_PORT)?;
         if !is_ual_path(address.path) {
             return Err(NameFault::Path);
         }

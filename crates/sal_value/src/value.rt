@@ -2,7 +2,8 @@ ghost use Rattle.std.specs.Prelude.{◌≡◌, IfOk};
 
 use crate::list::List;
 use crate::name::Name;
-use crate::text::{NoMemory, Text};
+use crate::no_memory::NoMemory;
+use crate::text::Text;
 use std::alloc::Global;
 use thiserror::Error;
 

@@ -5,7 +5,7 @@ use Rattle.std.proofs.lemmas.Bool.{ltb-false, le-ltb}
 use Rattle.sal_ast.specs.declared.program.Program.{Program}
 use Rattle.sal_ast.specs.declared.statement.Stmt.{Stmt}
 use Rattle.sal_handler.specs.Prints.{Print, Outline, program_of}
-use Rattle.sal_value.specs.declared.text.NoMemory.{NoMemory}
+use Rattle.sal_value.specs.declared.no_memory.NoMemory.{NoMemory}
 use Rattle.salsa.specs.Form.{Read, Spells, Outlines, program_tokens, statement_tokens}
 use Rattle.salsa.specs.Reading.{text_of, Header, header_of, head_read, body_read, tree_of, program_headed, program_read, form_read}
 use Rattle.salsa.proofs.Takes.{Cuts, of_cut, to_cut}

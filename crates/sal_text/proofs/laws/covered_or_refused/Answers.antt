@@ -1,5 +1,5 @@
-use Rattle.sal_text.proofs.OneAnswer.{none_of_both}
+use Rattle.sal_text.proofs.SomeAnswer.{covered_or_refused}
 use Rattle.sal_text.proofs.laws.covered_or_refused.Goals as goal
 
 pub returns : goal.returns
-returns c = none_of_both
+returns c = covered_or_refused
