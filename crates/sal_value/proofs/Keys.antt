@@ -12,7 +12,7 @@ use Rattle.sal_value.specs.declared.name.Uan.{Uan}
 use Rattle.sal_value.specs.declared.name.Name.{Name}
 use Rattle.sal_value.specs.declared.name.Name.TheVariants as name
 use Rattle.sal_value.specs.Names.{uan_text, address_text}
-use Rattle.sal_value.specs.Order.{closed, key}
+use Rattle.sal_value.specs.Order.{closed, key, uan_key}
 
 then_assoc : (a b c : Ordering) → ordering_then (ordering_then a b) c ≡ ordering_then a (ordering_then b c)
 then_assoc Less b c = refl
@@ -109,3 +109,15 @@ agree false false P h d = refl
 -- a test that answers whether two names are one compares their keys
 pub same_test : (a b : Name) (r : Bool) → IsTrue r ↔ (a ≡ b) → r ≡ bytes_eq (key a) (key b)
 same_test a b r h = agree r (bytes_eq (key a) (key b)) (a ≡ b) h (key_decides a b)
+
+-- the same of universal names
+uan_key_decides : (u v : Uan) → Decides (bytes_eq (uan_key u) (uan_key v)) (u ≡ v)
+uan_key_decides u v =
+    let d = key_decides (name.Uan u) (name.Uan v) in
+    (λ t. same_uan (d.0 t), λ e. d.1 (ap name.Uan e))
+  where
+    same_uan : {a b : Uan} → name.Uan a ≡ name.Uan b → a ≡ b
+    same_uan e = cc
+
+pub same_uan_test : (u v : Uan) (r : Bool) → IsTrue r ↔ (u ≡ v) → r ≡ bytes_eq (uan_key u) (uan_key v)
+same_uan_test u v r h = agree r (bytes_eq (uan_key u) (uan_key v)) (u ≡ v) h (uan_key_decides u v)

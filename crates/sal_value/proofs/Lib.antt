@@ -4,6 +4,7 @@ pub mod Canonical
 pub mod Cuts
 pub mod Decided
 pub mod Decimals
+pub mod Entries
 pub mod Equations
 pub mod Found
 pub mod Given
@@ -14,6 +15,7 @@ pub mod Numbers
 pub mod Readings
 pub mod Refusals
 pub mod Rooms
+pub mod Tables
 pub mod Takes
 pub mod Texts
 pub mod Utf8

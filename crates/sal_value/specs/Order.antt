@@ -1,5 +1,6 @@
 -- The order of names.
 use Rattle.std.specs.Prelude.{◌≡◌, ℕ, suc, List, [], ◌∷◌, ◌++◌, map}
+use Rattle.sal_value.specs.declared.name.Uan.{Uan}
 use Rattle.sal_value.specs.declared.name.Name.{Name}
 use Rattle.sal_value.specs.declared.name.Name.TheVariants as name
 use Rattle.sal_value.specs.Names.{uan_text}
@@ -15,6 +16,10 @@ unfoldable pub key : Name → List ℕ
 key (name.Anon theatre number) = 0 ∷ theatre ∷ number ∷ []
 key (name.Outside number) = 1 ∷ number ∷ []
 key (name.Uan u) = 2 ∷ (closed (uan_text u) ++ (closed u.host ++ u.port ∷ []))
+
+-- the same of a universal name
+abbrev pub uan_key : Uan → List ℕ
+uan_key u = key (name.Uan u)
 
 -- equal keys are equal names
 abbrev pub KeysTellNames : Type 0

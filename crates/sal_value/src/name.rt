@@ -7,7 +7,7 @@ use std::alloc::Global;
 use thiserror::Error;
 
 /// A universal actor name, `uan://host:port/path`.
-#[derive(Debug, Drop, PartialEq, Eq)]
+#[derive(Debug, Drop)]
 pub struct Uan {
     pub host: Text,
     pub port: u16,

@@ -5,7 +5,7 @@ ghost use Rattle.std.specs.Iterator.{YieldsFirst, item_count};
 ghost use Rattle.std.specs.Ordering.{nat_cmp};
 ghost use Rattle.std.specs.Cmp.Lexicographic.{slice_cmp};
 ghost use Rattle.sal_value.specs.Names.{uan_text, lowered};
-ghost use Rattle.sal_value.specs.Order.{key};
+ghost use Rattle.sal_value.specs.Order.{key, uan_key};
 
 use crate::address::between;
 use crate::name::{Name, Uan};
@@ -73,7 +73,7 @@ pub fn compare_texts(left: &Uan, right: &Uan) -> Ordering
 /// Compares two universal names by text, and then by host.
 #[tactic(auto, using(crate::proofs::Keys::cmp_uans))]
 fn compare_uans(left: &Uan, right: &Uan) -> Ordering
-    ensures { result ≡ slice_cmp nat_cmp (key (Name.Uan left.now)) (key (Name.Uan right.now)) }
+    ensures { result ≡ slice_cmp nat_cmp (uan_key left.now) (uan_key right.now) }
 {
     compare_texts(left, right).then(
         left.host
@@ -81,6 +81,76 @@ fn compare_uans(left: &Uan, right: &Uan) -> Ordering
             .cmp(right.host.as_bytes())
             .then(left.port.cmp(&right.port)),
     )
+}
+
+impl Uan {
+    ghost use Rattle.std.specs.Prelude.{◌↔◌, IsTrue};
+
+    /// Whether they are one name.
+    pub fn is(&self, other: &Uan) -> bool
+        ensures { IsTrue result ↔ (self.now ≡ other.now) }
+    {
+        self.host == other.host && self.port == other.port && self.path == other.path
+    }
+}
+
+impl PartialEq for Uan {
+    ghost use Rattle.sal_value.specs.Order.{uan_key};
+    ghost use Rattle.std.specs.Prelude.{nat_eq};
+    ghost use Rattle.std.specs.Cmp.{on_per, partial_equiv_from_equiv};
+    ghost use Rattle.std.specs.Cmp.Lexicographic.{nat_list_eq_equiv, pointwise};
+
+    ghost eq = { λ a b. pointwise nat_eq (uan_key a) (uan_key b) };
+
+    ghost laws = { on_per uan_key (partial_equiv_from_equiv nat_list_eq_equiv) };
+
+    fn eq(&self, other: &Uan) -> bool {
+        self.is(other)
+    }
+}
+
+impl Eq for Uan {
+    ghost use Rattle.sal_value.specs.Order.{uan_key};
+    ghost use Rattle.std.specs.Cmp.{on_equiv};
+    ghost use Rattle.std.specs.Cmp.Lexicographic.{nat_list_eq_equiv};
+
+    ghost laws = { on_equiv uan_key nat_list_eq_equiv };
+}
+
+impl PartialOrd for Uan {
+    ghost use Rattle.sal_value.specs.Order.{uan_key};
+    ghost use Rattle.std.specs.Prelude.{Some};
+    ghost use Rattle.std.specs.Ordering.{nat_cmp};
+    ghost use Rattle.std.specs.Cmp.{on_po};
+    ghost use Rattle.std.specs.Cmp.Lexicographic.{slice_cmp, texts_po};
+
+    ghost partial_cmp = { λ a b. Some (slice_cmp nat_cmp (uan_key a) (uan_key b)) };
+
+    ghost laws = { on_po uan_key texts_po };
+
+    fn partial_cmp(&self, other: &Uan) -> Option<Ordering> {
+        Some(self.cmp(other))
+    }
+}
+
+impl Ord for Uan {
+    ghost use Rattle.sal_value.specs.Order.{uan_key};
+    ghost use Rattle.std.specs.Prelude.{refl};
+    ghost use Rattle.std.specs.Ordering.{nat_cmp};
+    ghost use Rattle.std.specs.Cmp.{on_total};
+    ghost use Rattle.std.specs.Cmp.Lexicographic.{nat_list_cmp_total, slice_cmp, texts_ties};
+
+    ghost cmp = { λ a b. slice_cmp nat_cmp (uan_key a) (uan_key b) };
+
+    ghost total = { on_total uan_key nat_list_cmp_total };
+
+    ghost matches_partial_cmp = { λ a b. refl };
+
+    ghost matches_eq = { λ a b. texts_ties (uan_key a) (uan_key b) };
+
+    fn cmp(&self, other: &Uan) -> Ordering {
+        compare_uans(self, other)
+    }
 }
 
 impl Name {
@@ -95,7 +165,7 @@ impl Name {
                 *theatre == *other_theatre && *number == *other_number
             }
             (Name::Outside(number), Name::Outside(other_number)) => *number == *other_number,
-            (Name::Uan(uan), Name::Uan(other_uan)) => uan == other_uan,
+            (Name::Uan(uan), Name::Uan(other_uan)) => uan.is(other_uan),
             _ => false,
         }
     }
