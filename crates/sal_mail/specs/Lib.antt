@@ -1,3 +1,4 @@
 pub mod Address
+pub mod Key
 pub mod Message
 pub mod Sums
