@@ -26,21 +26,21 @@ use Rattle.sal_ast.specs.declared.statement.Chain.{Chain}
 use Rattle.sal_ast.specs.declared.statement.Stage.TheViews.{roll-Stage, roll-Stmt, roll-Chain}
 use Rattle.sal_ast.specs.declared.statement.Stage.TheOpen.{Stage-F, Stmt-F, Chain-F}
 use Rattle.sal_ast.specs.declared.statement.Stage.TheFolds.{map-Stage, map-Stmt, map-Chain, fold-roll-Stage, fold-roll-Stmt, fold-roll-Chain, ind-Stmt}
-use Rattle.sal_ast.specs.Brackets.{Keeps, turn_of, BracketsAreClosed, PrefixSignsAreBounded, SpellingsAreNotEmpty}
+use Rattle.sal_ast.specs.Brackets.{Keeps, role_of, BracketsAreClosed, PrefixSignsAreBounded, SpellingsAreNotEmpty}
 use Rattle.sal_ast.specs.Depth as deep
 use Rattle.sal_ast.specs.Depth.{greatest, stage_depth, stmt_depth, chain_depth, depth_expr, depth_stage, depth_stmt, depth_chain, depth_send, depth, depth_index, depth_declare, depth_assign, depth_init, depth_arg, depth_property, depth_member, depth_behavior}
 use Rattle.sal_ast.specs.Regular.{is_regular}
-use Rattle.sal_ast.specs.Spell.{Piece, Pieces, identifier, all, joined, if_there, spell_value, spell_option, spell_index, spell_this, spell_declare, spell_assign, spell_init, spell_header, spell_aim, spell_arg, spell_property, spell_send, spell_passed, stage_pieces, stmt_pieces, chain_pieces, spell_stage, spell_stmt, spell_chain, spell_block, spell_param, spell_params, spell_result, spell_member, spell_behavior, spell}
+use Rattle.sal_ast.specs.Spell.{TreeToken, TreeTokens, identifier, concat_tokens, separated_tokens, or_no_tokens, spell_value, spell_option, spell_index, spell_this, spell_declare, spell_assign, spell_init, spell_header, spell_aim, spell_arg, spell_property, spell_send, spell_continuation, stage_tokens, stmt_tokens, chain_tokens, spell_stage, spell_stmt, spell_chain, spell_block, spell_param, spell_params, spell_result, spell_member, spell_behavior, spell}
 use Rattle.sal_ast.proofs.Closing.{Fits, none, quiet, keep, more, two, round, square, curly, behind_round, Known, all_fit, joined_fit, all_fits, joined_fits, type_fits, expr_fits}
 
-one : {p : Piece} → turn_of p ≡ Keeps → Fits 0 0 (p ∷ [])
+one : {p : TreeToken} → role_of p ≡ Keeps → Fits 0 0 (p ∷ [])
 one e = keep e quiet
 
-value_fits : (x : Option Expr) → Fits (deep.if_there (option_map depth_expr x)) 0 (spell_value x)
+value_fits : (x : Option Expr) → Fits (deep.or_zero (option_map depth_expr x)) 0 (spell_value x)
 value_fits None = quiet
 value_fits (Some x) = keep refl (more (expr_fits x) (omega arith) (omega arith))
 
-option_fits : (x : Option Expr) → Fits (deep.if_there (option_map depth_expr x)) 0 (spell_option x)
+option_fits : (x : Option Expr) → Fits (deep.or_zero (option_map depth_expr x)) 0 (spell_option x)
 option_fits None = quiet
 option_fits (Some x) = more (expr_fits x) (omega arith) (omega arith)
 
@@ -67,11 +67,11 @@ init_fits init.Nothing = quiet
 init_fits (init.Declare d) = declare_fits d
 init_fits (init.Assign a) = assign_fits a
 
-next_fits : (n : Option Assign) → Fits (deep.if_there (option_map depth_assign n)) 1 (if_there (option_map spell_assign n))
+next_fits : (n : Option Assign) → Fits (deep.or_zero (option_map depth_assign n)) 1 (or_no_tokens (option_map spell_assign n))
 next_fits None = quiet
 next_fits (Some a) = assign_fits a
 
-header_fits : (i : ForInit) (t : Option Expr) (n : Option Assign) → Fits (suc (max (max (depth_init i) (deep.if_there (option_map depth_expr t))) (deep.if_there (option_map depth_assign n)))) 1 (spell_header i t n)
+header_fits : (i : ForInit) (t : Option Expr) (n : Option Assign) → Fits (suc (max (max (depth_init i) (deep.or_zero (option_map depth_expr t))) (deep.or_zero (option_map depth_assign n)))) 1 (spell_header i t n)
 unfolding spell_header
 header_fits i t n =
     more (round None (two (two (two (two (init_fits i) (one refl)) (option_fits t)) (one refl)) (next_fits n))) (omega arith) (omega arith)
@@ -106,12 +106,12 @@ property_fits (property.WaitFor at names) =
 send_fits : (m : Send) → Fits (depth_send m) 1 (spell_send m)
 unfolding depth_send spell_send
 send_fits m =
-    more (two (behind_round (spell_aim m.aim ++ identifier m.handler) (joined "," (map spell_arg m.args))
+    more (two (behind_round (spell_aim m.aim ++ identifier m.handler) (separated_tokens "," (map spell_arg m.args))
     (two (aim_fits m.aim) (one {p = record { kind = kind.Id; text = m.handler.text; at = Some m.handler.at }} refl))
     (joined_fits Arg 0 depth_arg spell_arg arg_fits m.args))
     (all_fits Property 1 depth_property spell_property property_fits m.properties)) (omega arith) (omega arith)
 
-passed_fits : (p : Option ℕ) → Fits 0 0 (spell_passed p)
+passed_fits : (p : Option ℕ) → Fits 0 0 (spell_continuation p)
 passed_fits None = quiet
 passed_fits (Some at) = keep refl (keep refl quiet)
 
@@ -135,8 +135,8 @@ stmt_trees = map-Stmt (Known Stage PG) (Known Stmt PT) (Known Chain PC) Stage St
 abbrev stmt_depths : Stmt-F Stage Stmt Chain → ℕ
 stmt_depths x = stmt_depth (map-Stmt Stage Stmt Chain ℕ ℕ ℕ depth_stage depth_stmt depth_chain x)
 
-abbrev stmt_parts : Stmt-F Stage Stmt Chain → Pieces
-stmt_parts x = stmt_pieces (map-Stmt Stage Stmt Chain Pieces Pieces Pieces spell_stage spell_stmt spell_chain x)
+abbrev stmt_parts : Stmt-F Stage Stmt Chain → TreeTokens
+stmt_parts x = stmt_tokens (map-Stmt Stage Stmt Chain TreeTokens TreeTokens TreeTokens spell_stage spell_stmt spell_chain x)
 
 stmt_step : (y : LayerT) → Fits (stmt_depths (stmt_trees y)) 1 (stmt_parts (stmt_trees y))
 stmt_step (Stmt-F.Empty at) = keep refl quiet
@@ -167,10 +167,10 @@ stmt_depth_rolled z = fold-roll-Stmt ℕ ℕ ℕ stage_depth stmt_depth chain_de
 
 stmt_spell_rolled : (z : Stmt-F Stage Stmt Chain) → spell_stmt (roll-Stmt z) ≡ stmt_parts z
 unfolding spell_stage spell_stmt spell_chain
-stmt_spell_rolled z = fold-roll-Stmt Pieces Pieces Pieces stage_pieces stmt_pieces chain_pieces z
+stmt_spell_rolled z = fold-roll-Stmt TreeTokens TreeTokens TreeTokens stage_tokens stmt_tokens chain_tokens z
 
-moved : (d e : ℕ) (p q : Pieces) → d ≡ e → p ≡ q → Fits e 1 q → Fits d 1 p
-moved d e p q x y f = subst (λ (n : ℕ). Fits n 1 p) (sym x) (subst (λ (ps : Pieces). Fits e 1 ps) (sym y) f)
+moved : (d e : ℕ) (p q : TreeTokens) → d ≡ e → p ≡ q → Fits e 1 q → Fits d 1 p
+moved d e p q x y f = subst (λ (n : ℕ). Fits n 1 p) (sym x) (subst (λ (ps : TreeTokens). Fits e 1 ps) (sym y) f)
 
 stmt_layer : (y : LayerT) → PT (roll-Stmt (stmt_trees y))
 stmt_layer y = moved (depth_stmt (roll-Stmt (stmt_trees y))) (stmt_depths (stmt_trees y)) (spell_stmt (roll-Stmt (stmt_trees y))) (stmt_parts (stmt_trees y)) (stmt_depth_rolled (stmt_trees y)) (stmt_spell_rolled (stmt_trees y)) (stmt_step y)
@@ -184,8 +184,8 @@ stage_trees = map-Stage (Known Stage PG) (Known Stmt PT) (Known Chain PC) Stage 
 abbrev stage_depths : Stage-F Stage Stmt Chain → ℕ
 stage_depths x = stage_depth (map-Stage Stage Stmt Chain ℕ ℕ ℕ depth_stage depth_stmt depth_chain x)
 
-abbrev stage_parts : Stage-F Stage Stmt Chain → Pieces
-stage_parts x = stage_pieces (map-Stage Stage Stmt Chain Pieces Pieces Pieces spell_stage spell_stmt spell_chain x)
+abbrev stage_parts : Stage-F Stage Stmt Chain → TreeTokens
+stage_parts x = stage_tokens (map-Stage Stage Stmt Chain TreeTokens TreeTokens TreeTokens spell_stage spell_stmt spell_chain x)
 
 stage_step : (y : LayerG) → Fits (stage_depths (stage_trees y)) 1 (stage_parts (stage_trees y))
 stage_step (Stage-F.Message m) = send_fits m
@@ -198,7 +198,7 @@ stage_depth_rolled z = fold-roll-Stage ℕ ℕ ℕ stage_depth stmt_depth chain_
 
 stage_spell_rolled : (z : Stage-F Stage Stmt Chain) → spell_stage (roll-Stage z) ≡ stage_parts z
 unfolding spell_stage spell_stmt spell_chain
-stage_spell_rolled z = fold-roll-Stage Pieces Pieces Pieces stage_pieces stmt_pieces chain_pieces z
+stage_spell_rolled z = fold-roll-Stage TreeTokens TreeTokens TreeTokens stage_tokens stmt_tokens chain_tokens z
 
 stage_layer : (y : LayerG) → PG (roll-Stage (stage_trees y))
 stage_layer y = moved (depth_stage (roll-Stage (stage_trees y))) (stage_depths (stage_trees y)) (spell_stage (roll-Stage (stage_trees y))) (stage_parts (stage_trees y)) (stage_depth_rolled (stage_trees y)) (stage_spell_rolled (stage_trees y)) (stage_step y)
@@ -212,8 +212,8 @@ chain_trees = map-Chain (Known Stage PG) (Known Stmt PT) (Known Chain PC) Stage 
 abbrev chain_depths : Chain-F Stage Stmt Chain → ℕ
 chain_depths x = chain_depth (map-Chain Stage Stmt Chain ℕ ℕ ℕ depth_stage depth_stmt depth_chain x)
 
-abbrev chain_parts : Chain-F Stage Stmt Chain → Pieces
-chain_parts x = chain_pieces (map-Chain Stage Stmt Chain Pieces Pieces Pieces spell_stage spell_stmt spell_chain x)
+abbrev chain_parts : Chain-F Stage Stmt Chain → TreeTokens
+chain_parts x = chain_tokens (map-Chain Stage Stmt Chain TreeTokens TreeTokens TreeTokens spell_stage spell_stmt spell_chain x)
 
 chain_step : (y : LayerC) → Fits (chain_depths (chain_trees y)) 1 (chain_parts (chain_trees y))
 chain_step y = joined_fit "@" refl Stage PG 1 depth_stage spell_stage (λ a f. f) y.stages
@@ -224,7 +224,7 @@ chain_depth_rolled z = fold-roll-Chain ℕ ℕ ℕ stage_depth stmt_depth chain_
 
 chain_spell_rolled : (z : Chain-F Stage Stmt Chain) → spell_chain (roll-Chain z) ≡ chain_parts z
 unfolding spell_stage spell_stmt spell_chain
-chain_spell_rolled z = fold-roll-Chain Pieces Pieces Pieces stage_pieces stmt_pieces chain_pieces z
+chain_spell_rolled z = fold-roll-Chain TreeTokens TreeTokens TreeTokens stage_tokens stmt_tokens chain_tokens z
 
 chain_layer : (y : LayerC) → PC (roll-Chain (chain_trees y))
 chain_layer y = moved (depth_chain (roll-Chain (chain_trees y))) (chain_depths (chain_trees y)) (spell_chain (roll-Chain (chain_trees y))) (chain_parts (chain_trees y)) (chain_depth_rolled (chain_trees y)) (chain_spell_rolled (chain_trees y)) (chain_step y)
@@ -275,7 +275,7 @@ closed p = (program_fits p).opened (depth p + 3) [] (omega arith)
 pub bounded : PrefixSignsAreBounded
 bounded p = (program_fits p).waiting (2 * depth p + 4) [] refl (omega arith)
 
-not_empty : (bs : List Behavior) → all (map spell_behavior bs) ≡ [] → bs ≡ []
+not_empty : (bs : List Behavior) → concat_tokens (map spell_behavior bs) ≡ [] → bs ≡ []
 unfolding spell_behavior
 not_empty [] e = refl
 not_empty (b ∷ bs) e = absurd cc

@@ -20,92 +20,92 @@ use Rattle.sal_ast.specs.declared.statement.Stage.TheOpen.{Stage-F, Stmt-F}
 use Rattle.sal_ast.specs.declared.statement.Stage.TheFolds.{fold-roll-Stmt, fold-roll-Stage, fold_out-Chain}
 use Rattle.sal_ast.specs.declared.statement.Stmt.TheVariants as t
 use Rattle.sal_ast.specs.declared.statement.Stage.TheVariants as g
-use Rattle.sal_ast.specs.Regular.{Shape, Part, Form, shape_of, suffix_is_regular, at_is_regular, part_of, stage_is_regular, form_of, chain_is_regular, shape_step, suffix_step, at_step, operand_step, stage_step, stmt_step, chain_step}
+use Rattle.sal_ast.specs.Regular.{Shape, RankedOperand, Form, shape_of, suffix_is_regular, at_is_regular, ranked_operand, stage_is_regular, form_of, chain_is_regular, shape_step, suffix_step, at_step, operand_step, stage_step, stmt_step, chain_step}
 
 pub regular-Number : (n at : ℕ) → shape_of (e.Number n at) ≡ shape_step (Expr-F.Number n at)
-unfolding shape_of suffix_is_regular at_is_regular part_of
-regular-Number n at = ap shape_of (sym (e.rolls-Number n at)) ∙ fold-roll-Expr Shape Bool Bool Part shape_step suffix_step at_step operand_step (Expr-F.Number n at)
+unfolding shape_of suffix_is_regular at_is_regular ranked_operand
+regular-Number n at = ap shape_of (sym (e.rolls-Number n at)) ∙ fold-roll-Expr Shape Bool Bool RankedOperand shape_step suffix_step at_step operand_step (Expr-F.Number n at)
 
 pub regular-Str : (text : List ℕ) (at : ℕ) → shape_of (e.Str text at) ≡ shape_step (Expr-F.Str text at)
-unfolding shape_of suffix_is_regular at_is_regular part_of
-regular-Str text at = ap shape_of (sym (e.rolls-Str text at)) ∙ fold-roll-Expr Shape Bool Bool Part shape_step suffix_step at_step operand_step (Expr-F.Str text at)
+unfolding shape_of suffix_is_regular at_is_regular ranked_operand
+regular-Str text at = ap shape_of (sym (e.rolls-Str text at)) ∙ fold-roll-Expr Shape Bool Bool RankedOperand shape_step suffix_step at_step operand_step (Expr-F.Str text at)
 
 pub regular-Bool : (b : Bool) (at : ℕ) → shape_of (e.Bool b at) ≡ shape_step (Expr-F.Bool b at)
-unfolding shape_of suffix_is_regular at_is_regular part_of
-regular-Bool b at = ap shape_of (sym (e.rolls-Bool b at)) ∙ fold-roll-Expr Shape Bool Bool Part shape_step suffix_step at_step operand_step (Expr-F.Bool b at)
+unfolding shape_of suffix_is_regular at_is_regular ranked_operand
+regular-Bool b at = ap shape_of (sym (e.rolls-Bool b at)) ∙ fold-roll-Expr Shape Bool Bool RankedOperand shape_step suffix_step at_step operand_step (Expr-F.Bool b at)
 
 pub regular-Null : (at : ℕ) → shape_of (e.Null at) ≡ shape_step (Expr-F.Null at)
-unfolding shape_of suffix_is_regular at_is_regular part_of
-regular-Null at = ap shape_of (sym (e.rolls-Null at)) ∙ fold-roll-Expr Shape Bool Bool Part shape_step suffix_step at_step operand_step (Expr-F.Null at)
+unfolding shape_of suffix_is_regular at_is_regular ranked_operand
+regular-Null at = ap shape_of (sym (e.rolls-Null at)) ∙ fold-roll-Expr Shape Bool Bool RankedOperand shape_step suffix_step at_step operand_step (Expr-F.Null at)
 
 pub regular-Me : (at : ℕ) → shape_of (e.Me at) ≡ shape_step (Expr-F.Me at)
-unfolding shape_of suffix_is_regular at_is_regular part_of
-regular-Me at = ap shape_of (sym (e.rolls-Me at)) ∙ fold-roll-Expr Shape Bool Bool Part shape_step suffix_step at_step operand_step (Expr-F.Me at)
+unfolding shape_of suffix_is_regular at_is_regular ranked_operand
+regular-Me at = ap shape_of (sym (e.rolls-Me at)) ∙ fold-roll-Expr Shape Bool Bool RankedOperand shape_step suffix_step at_step operand_step (Expr-F.Me at)
 
 pub regular-Name : (name : Ident) → shape_of (e.Name name) ≡ shape_step (Expr-F.Name name)
-unfolding shape_of suffix_is_regular at_is_regular part_of
-regular-Name name = ap shape_of (sym (e.rolls-Name name)) ∙ fold-roll-Expr Shape Bool Bool Part shape_step suffix_step at_step operand_step (Expr-F.Name name)
+unfolding shape_of suffix_is_regular at_is_regular ranked_operand
+regular-Name name = ap shape_of (sym (e.rolls-Name name)) ∙ fold-roll-Expr Shape Bool Bool RankedOperand shape_step suffix_step at_step operand_step (Expr-F.Name name)
 
 pub regular-Own : (at : ℕ) (name : Ident) → shape_of (e.Own at name) ≡ shape_step (Expr-F.Own at name)
-unfolding shape_of suffix_is_regular at_is_regular part_of
-regular-Own at name = ap shape_of (sym (e.rolls-Own at name)) ∙ fold-roll-Expr Shape Bool Bool Part shape_step suffix_step at_step operand_step (Expr-F.Own at name)
+unfolding shape_of suffix_is_regular at_is_regular ranked_operand
+regular-Own at name = ap shape_of (sym (e.rolls-Own at name)) ∙ fold-roll-Expr Shape Bool Bool RankedOperand shape_step suffix_step at_step operand_step (Expr-F.Own at name)
 
 pub regular-Paren : (at : ℕ) (a : Expr) → shape_of (e.Paren at a) ≡ shape_step (Expr-F.Paren at (shape_of a))
-unfolding shape_of suffix_is_regular at_is_regular part_of
-regular-Paren at a = ap shape_of (sym (e.rolls-Paren at a)) ∙ fold-roll-Expr Shape Bool Bool Part shape_step suffix_step at_step operand_step (Expr-F.Paren at a)
+unfolding shape_of suffix_is_regular at_is_regular ranked_operand
+regular-Paren at a = ap shape_of (sym (e.rolls-Paren at a)) ∙ fold-roll-Expr Shape Bool Bool RankedOperand shape_step suffix_step at_step operand_step (Expr-F.Paren at a)
 
 pub regular-Neg : (at : ℕ) (a : Expr) → shape_of (e.Neg at a) ≡ shape_step (Expr-F.Neg at (shape_of a))
-unfolding shape_of suffix_is_regular at_is_regular part_of
-regular-Neg at a = ap shape_of (sym (e.rolls-Neg at a)) ∙ fold-roll-Expr Shape Bool Bool Part shape_step suffix_step at_step operand_step (Expr-F.Neg at a)
+unfolding shape_of suffix_is_regular at_is_regular ranked_operand
+regular-Neg at a = ap shape_of (sym (e.rolls-Neg at a)) ∙ fold-roll-Expr Shape Bool Bool RankedOperand shape_step suffix_step at_step operand_step (Expr-F.Neg at a)
 
 pub regular-Not : (at : ℕ) (a : Expr) → shape_of (e.Not at a) ≡ shape_step (Expr-F.Not at (shape_of a))
-unfolding shape_of suffix_is_regular at_is_regular part_of
-regular-Not at a = ap shape_of (sym (e.rolls-Not at a)) ∙ fold-roll-Expr Shape Bool Bool Part shape_step suffix_step at_step operand_step (Expr-F.Not at a)
+unfolding shape_of suffix_is_regular at_is_regular ranked_operand
+regular-Not at a = ap shape_of (sym (e.rolls-Not at a)) ∙ fold-roll-Expr Shape Bool Bool RankedOperand shape_step suffix_step at_step operand_step (Expr-F.Not at a)
 
-pub regular-Level : (a : Expr) (rest : List Operand) → shape_of (e.Level a rest) ≡ shape_step (Expr-F.Level (shape_of a) (map part_of rest))
-unfolding shape_of suffix_is_regular at_is_regular part_of
-regular-Level a rest = ap shape_of (sym (e.rolls-Level a rest)) ∙ fold-roll-Expr Shape Bool Bool Part shape_step suffix_step at_step operand_step (Expr-F.Level a rest)
+pub regular-Level : (a : Expr) (rest : List Operand) → shape_of (e.Level a rest) ≡ shape_step (Expr-F.Level (shape_of a) (map ranked_operand rest))
+unfolding shape_of suffix_is_regular at_is_regular ranked_operand
+regular-Level a rest = ap shape_of (sym (e.rolls-Level a rest)) ∙ fold-roll-Expr Shape Bool Bool RankedOperand shape_step suffix_step at_step operand_step (Expr-F.Level a rest)
 
 pub regular-Suffixed : (a : Expr) (rest : List Suffix) → shape_of (e.Suffixed a rest) ≡ shape_step (Expr-F.Suffixed (shape_of a) (map suffix_is_regular rest))
-unfolding shape_of suffix_is_regular at_is_regular part_of
-regular-Suffixed a rest = ap shape_of (sym (e.rolls-Suffixed a rest)) ∙ fold-roll-Expr Shape Bool Bool Part shape_step suffix_step at_step operand_step (Expr-F.Suffixed a rest)
+unfolding shape_of suffix_is_regular at_is_regular ranked_operand
+regular-Suffixed a rest = ap shape_of (sym (e.rolls-Suffixed a rest)) ∙ fold-roll-Expr Shape Bool Bool RankedOperand shape_step suffix_step at_step operand_step (Expr-F.Suffixed a rest)
 
 pub regular-Make : (at : ℕ) (sort : TypeName) (a : Expr) → shape_of (e.Make at sort a) ≡ shape_step (Expr-F.Make at sort (shape_of a))
-unfolding shape_of suffix_is_regular at_is_regular part_of
-regular-Make at sort a = ap shape_of (sym (e.rolls-Make at sort a)) ∙ fold-roll-Expr Shape Bool Bool Part shape_step suffix_step at_step operand_step (Expr-F.Make at sort a)
+unfolding shape_of suffix_is_regular at_is_regular ranked_operand
+regular-Make at sort a = ap shape_of (sym (e.rolls-Make at sort a)) ∙ fold-roll-Expr Shape Bool Bool RankedOperand shape_step suffix_step at_step operand_step (Expr-F.Make at sort a)
 
 pub regular-ListOf : (at : ℕ) (sort : TypeName) (items : List Expr) → shape_of (e.ListOf at sort items) ≡ shape_step (Expr-F.ListOf at sort (map shape_of items))
-unfolding shape_of suffix_is_regular at_is_regular part_of
-regular-ListOf at sort items = ap shape_of (sym (e.rolls-ListOf at sort items)) ∙ fold-roll-Expr Shape Bool Bool Part shape_step suffix_step at_step operand_step (Expr-F.ListOf at sort items)
+unfolding shape_of suffix_is_regular at_is_regular ranked_operand
+regular-ListOf at sort items = ap shape_of (sym (e.rolls-ListOf at sort items)) ∙ fold-roll-Expr Shape Bool Bool RankedOperand shape_step suffix_step at_step operand_step (Expr-F.ListOf at sort items)
 
 pub regular-ByName : (at : ℕ) (cast : Option Ident) (behavior : Ident) (a : Expr) → shape_of (e.ByName at cast behavior a) ≡ shape_step (Expr-F.ByName at cast behavior (shape_of a))
-unfolding shape_of suffix_is_regular at_is_regular part_of
-regular-ByName at cast behavior a = ap shape_of (sym (e.rolls-ByName at cast behavior a)) ∙ fold-roll-Expr Shape Bool Bool Part shape_step suffix_step at_step operand_step (Expr-F.ByName at cast behavior a)
+unfolding shape_of suffix_is_regular at_is_regular ranked_operand
+regular-ByName at cast behavior a = ap shape_of (sym (e.rolls-ByName at cast behavior a)) ∙ fold-roll-Expr Shape Bool Bool RankedOperand shape_step suffix_step at_step operand_step (Expr-F.ByName at cast behavior a)
 
 pub regular-New : (at : ℕ) (behavior : Ident) (args : List Expr) (place : Option At) → shape_of (e.New at behavior args place) ≡ shape_step (Expr-F.New at behavior (map shape_of args) (option_map at_is_regular place))
-unfolding shape_of suffix_is_regular at_is_regular part_of
-regular-New at behavior args None = ap shape_of (sym (e.rolls-New at behavior args None)) ∙ fold-roll-Expr Shape Bool Bool Part shape_step suffix_step at_step operand_step (Expr-F.New at behavior args None)
-regular-New at behavior args (Some p) = ap shape_of (sym (e.rolls-New at behavior args (Some p))) ∙ fold-roll-Expr Shape Bool Bool Part shape_step suffix_step at_step operand_step (Expr-F.New at behavior args (Some p))
+unfolding shape_of suffix_is_regular at_is_regular ranked_operand
+regular-New at behavior args None = ap shape_of (sym (e.rolls-New at behavior args None)) ∙ fold-roll-Expr Shape Bool Bool RankedOperand shape_step suffix_step at_step operand_step (Expr-F.New at behavior args None)
+regular-New at behavior args (Some p) = ap shape_of (sym (e.rolls-New at behavior args (Some p))) ∙ fold-roll-Expr Shape Bool Bool RankedOperand shape_step suffix_step at_step operand_step (Expr-F.New at behavior args (Some p))
 
 pub regular-Index : (at : ℕ) (a : Expr) → suffix_is_regular (x.Index at a) ≡ suffix_step (Suffix-F.Index at (shape_of a))
-unfolding shape_of suffix_is_regular at_is_regular part_of
-regular-Index at a = ap suffix_is_regular (sym (x.rolls-Index at a)) ∙ fold-roll-Suffix Shape Bool Bool Part shape_step suffix_step at_step operand_step (Suffix-F.Index at a)
+unfolding shape_of suffix_is_regular at_is_regular ranked_operand
+regular-Index at a = ap suffix_is_regular (sym (x.rolls-Index at a)) ∙ fold-roll-Suffix Shape Bool Bool RankedOperand shape_step suffix_step at_step operand_step (Suffix-F.Index at a)
 
 pub regular-Length : (at : ℕ) → suffix_is_regular (x.Length at) ≡ suffix_step (Suffix-F.Length at)
-unfolding shape_of suffix_is_regular at_is_regular part_of
-regular-Length at = ap suffix_is_regular (sym (x.rolls-Length at)) ∙ fold-roll-Suffix Shape Bool Bool Part shape_step suffix_step at_step operand_step (Suffix-F.Length at)
+unfolding shape_of suffix_is_regular at_is_regular ranked_operand
+regular-Length at = ap suffix_is_regular (sym (x.rolls-Length at)) ∙ fold-roll-Suffix Shape Bool Bool RankedOperand shape_step suffix_step at_step operand_step (Suffix-F.Length at)
 
 at_is : (at : ℕ) (a : Expr) (b : Option Expr) → at_is_regular (record { at = at; uan = a; ual = b }) ≡ at_step (record { at = at; uan = shape_of a; ual = option_map shape_of b })
-unfolding shape_of suffix_is_regular at_is_regular part_of
-at_is at a None = fold_out-At Shape Bool Bool Part shape_step suffix_step at_step operand_step (record { at = at; uan = a; ual = None })
-at_is at a (Some b) = fold_out-At Shape Bool Bool Part shape_step suffix_step at_step operand_step (record { at = at; uan = a; ual = Some b })
+unfolding shape_of suffix_is_regular at_is_regular ranked_operand
+at_is at a None = fold_out-At Shape Bool Bool RankedOperand shape_step suffix_step at_step operand_step (record { at = at; uan = a; ual = None })
+at_is at a (Some b) = fold_out-At Shape Bool Bool RankedOperand shape_step suffix_step at_step operand_step (record { at = at; uan = a; ual = Some b })
 
 pub regular-At : (p : At) → at_is_regular p ≡ at_step (record { at = p.at; uan = shape_of p.uan; ual = option_map shape_of p.ual })
 regular-At p = at_is p.at p.uan p.ual
 
-pub regular-Operand : (p : Operand) → part_of p ≡ operand_step (record { op = p.op; at = p.at; value = shape_of p.value })
-unfolding shape_of suffix_is_regular at_is_regular part_of
-regular-Operand p = fold_out-Operand Shape Bool Bool Part shape_step suffix_step at_step operand_step p
+pub regular-Operand : (p : Operand) → ranked_operand p ≡ operand_step (record { op = p.op; at = p.at; value = shape_of p.value })
+unfolding shape_of suffix_is_regular at_is_regular ranked_operand
+regular-Operand p = fold_out-Operand Shape Bool Bool RankedOperand shape_step suffix_step at_step operand_step p
 
 pub regular-Empty : (at : ℕ) → form_of (t.Empty at) ≡ stmt_step (Stmt-F.Empty at)
 unfolding stage_is_regular form_of chain_is_regular

@@ -4,7 +4,7 @@ use Rattle.std.proofs.lemmas.List.{map-append}
 use Rattle.sal_ast.specs.declared.lexeme.Lexeme.{Lexeme}
 use Prim.Native.String.{String}
 use Rattle.sal_ast.specs.declared.program.Ident.{Ident}
-use Rattle.sal_ast.specs.Spell.{Pieces, Adds, brackets, sign, lexeme_of, lexemes, spell_reference, led, joined}
+use Rattle.sal_ast.specs.Spell.{TreeTokens, Adds, brackets, sign, lexeme_of, lexemes, spell_reference, each_after_sign, separated_tokens}
 
 pub brackets_next : (n i : ℕ) → i < n → brackets (n - i) ≡ sign "[" ++ sign "]" ++ brackets (n - (i + 1))
 unfolding brackets
@@ -21,11 +21,11 @@ reference_place at None behavior = refl
 reference_place at (Some name) behavior = refl
 
 -- what is still to be spelled of a list with a sign between its items
-abbrev pub go_on : Bool → String → List Pieces → Pieces
-go_on true text xs = led text xs
-go_on false text xs = joined text xs
+abbrev pub go_on : Bool → String → List TreeTokens → TreeTokens
+go_on true text xs = each_after_sign text xs
+go_on false text xs = separated_tokens text xs
 
 -- what is added last
-pub added : {A E : Type 0} (r : Result A E) (a b c : List Lexeme) (p q : Pieces) → Adds a b p → OnOk r (Adds b c q) → OnOk r (Adds a c (p ++ q))
+pub added : {A E : Type 0} (r : Result A E) (a b c : List Lexeme) (p q : TreeTokens) → Adds a b p → OnOk r (Adds b c q) → OnOk r (Adds a c (p ++ q))
 added (Ok x) a b c p q e f = f ∙ ap (λ l. l ++ lexemes q) e ∙ append_assoc a (lexemes p) (lexemes q) ∙ ap (λ l. a ++ l) (sym (map-append lexeme_of p q))
 added (Err x) a b c p q e f = tt

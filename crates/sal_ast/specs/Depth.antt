@@ -34,12 +34,12 @@ greatest [] = 0
 greatest (n ∷ ns) = max n (greatest ns)
 
 -- the depth as a 32-bit number
-abbrev pub capped : ℕ → ℕ
-capped n = min n 4294967295
+abbrev pub min_u32 : ℕ → ℕ
+min_u32 n = min n 4294967295
 
-abbrev pub if_there : Option ℕ → ℕ
-if_there None = 0
-if_there (Some n) = n
+abbrev pub or_zero : Option ℕ → ℕ
+or_zero None = 0
+or_zero (Some n) = n
 
 -- an expression, from the depths of its parts
 abbrev pub expr_depth : Expr-F ℕ ℕ ℕ ℕ → ℕ
@@ -61,7 +61,7 @@ expr_depth (Expr-F.Level first rest) = max first (greatest rest)
 -- primary { "[" expr "]" | "." "length" }
 expr_depth (Expr-F.Suffixed first rest) = max first (greatest rest)
 -- "new" Id "(" [ expr { "," expr } ] ")" [ "at" "(" expr [ "," expr ] ")" ]
-expr_depth (Expr-F.New at behavior args place) = suc (max (greatest args) (if_there place))
+expr_depth (Expr-F.New at behavior args place) = suc (max (greatest args) (or_zero place))
 -- "new" base "[" expr "]" { "[" "]" }
 expr_depth (Expr-F.Make at sort size) = suc size
 -- "new" base "[" "]" { "[" "]" } "{" [ expr { "," expr } ] "}"
@@ -76,7 +76,7 @@ suffix_depth (Suffix-F.Length at) = 0
 
 -- the texts of `at`
 abbrev pub at_depth : At-F ℕ ℕ ℕ ℕ → ℕ
-at_depth p = max p.uan (if_there p.ual)
+at_depth p = max p.uan (or_zero p.ual)
 
 abbrev pub operand_depth : Operand-F ℕ ℕ ℕ ℕ → ℕ
 operand_depth o = o.value
@@ -95,7 +95,7 @@ depth_operand = fold-Operand ℕ ℕ ℕ ℕ expr_depth suffix_depth at_depth op
 
 -- type Id [ "=" expr ]
 abbrev pub depth_declare : Declare → ℕ
-depth_declare d = if_there (option_map depth_expr d.init)
+depth_declare d = or_zero (option_map depth_expr d.init)
 
 abbrev pub depth_index : Expr → ℕ
 depth_index x = suc (depth_expr x)
@@ -147,13 +147,13 @@ stmt_depth (Stmt-F.Block at list) = suc (greatest list)
 stmt_depth (Stmt-F.Declare d) = depth_declare d
 stmt_depth (Stmt-F.Assign a) = depth_assign a
 -- "if" "(" expr ")" stmt [ "else" stmt ]
-stmt_depth (Stmt-F.If at test first second) = suc (max (depth_expr test) (max first (if_there second)))
+stmt_depth (Stmt-F.If at test first second) = suc (max (depth_expr test) (max first (or_zero second)))
 -- "while" "(" expr ")" stmt
 stmt_depth (Stmt-F.While at test body) = suc (max (depth_expr test) body)
 -- "for" "(" [ decl | assign ] ";" [ expr ] ";" [ assign ] ")" stmt
-stmt_depth (Stmt-F.For at first test next body) = suc (max (max (depth_init first) (if_there (option_map depth_expr test))) (max (if_there (option_map depth_assign next)) body))
+stmt_depth (Stmt-F.For at first test next body) = suc (max (max (depth_init first) (or_zero (option_map depth_expr test))) (max (or_zero (option_map depth_assign next)) body))
 -- "return" [ expr ] ";"
-stmt_depth (Stmt-F.Return at value) = if_there (option_map depth_expr value)
+stmt_depth (Stmt-F.Return at value) = or_zero (option_map depth_expr value)
 -- "token" Id "=" chain ";" | chain [ "@" "currentContinuation" ] ";"
 stmt_depth (Stmt-F.Token at name chain) = chain
 stmt_depth (Stmt-F.Chain chain passed) = chain
@@ -169,7 +169,7 @@ depth_chain = fold-Chain ℕ ℕ ℕ stage_depth stmt_depth chain_depth
 
 -- the braces of a behaviour, a constructor and a handler don't count
 abbrev pub depth_member : Member → ℕ
-depth_member (member.Field sort name init) = if_there (option_map depth_expr init)
+depth_member (member.Field sort name init) = or_zero (option_map depth_expr init)
 depth_member (member.Constructor name params body) = greatest (map depth_stmt body)
 depth_member (member.Handler result name params body) = greatest (map depth_stmt body)
 

@@ -18,15 +18,15 @@ abbrev pub is_name_byte : ℕ → Bool
 is_name_byte c = is_letter c || is_digit c
 
 -- the words of the language
-abbrev pub words : List (List ℕ)
-words =
+abbrev pub reserved_words : List (List ℕ)
+reserved_words =
     codes "behavior" ∷ codes "new" ∷ codes "int" ∷ codes "boolean" ∷ codes "String" ∷ codes "void" ∷ codes "long"
     ∷ codes "Object" ∷ codes "token" ∷ codes "join" ∷ codes "if" ∷ codes "else" ∷ codes "while" ∷ codes "for"
     ∷ codes "return" ∷ codes "true" ∷ codes "false" ∷ codes "null" ∷ codes "self" ∷ codes "this"
     ∷ codes "currentContinuation" ∷ codes "standardOutput" ∷ []
 
 unfoldable pub is_word : List ℕ → Bool
-is_word text = list_any (bytes_eq text) words
+is_word text = list_any (bytes_eq text) reserved_words
 
 -- what is spelled as words and identifiers are: a letter, then letters and digits
 abbrev pub is_name : List ℕ → Bool

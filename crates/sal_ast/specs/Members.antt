@@ -58,17 +58,17 @@ constructor_of b = slice_get (filter_map as_constructor b.members) 0
 
 -- Behaviours and handlers are numbered from 0, in the order of the text. Numbers are below 65,535, which
 -- stands for the output and for `migrate`.
-abbrev pub numbered : Option ℕ → Option ℕ
-numbered None = None
-numbered (Some n) = if nat_lt n RESERVED then Some n else None
+abbrev pub valid_number : Option ℕ → Option ℕ
+valid_number None = None
+valid_number (Some n) = if nat_lt n RESERVED then Some n else None
 
 -- the number of the first behaviour of this name
-unfoldable pub behavior_named : List ℕ → List Behavior → Option ℕ
-behavior_named name behaviors = numbered (position (λ b. bytes_eq b.name.text name) behaviors)
+unfoldable pub behavior_by_name : List ℕ → List Behavior → Option ℕ
+behavior_by_name name behaviors = valid_number (position (λ b. bytes_eq b.name.text name) behaviors)
 
 -- the number of the first handler of this name
-unfoldable pub handler_named : List ℕ → List Handler → Option ℕ
-handler_named name handlers = numbered (position (λ h. bytes_eq h.name name) handlers)
+unfoldable pub handler_by_name : List ℕ → List Handler → Option ℕ
+handler_by_name name handlers = valid_number (position (λ h. bytes_eq h.name name) handlers)
 
 -- the handlers of the behaviour with this number
 abbrev pub handlers_at : List Behavior → Option ℕ → List Handler

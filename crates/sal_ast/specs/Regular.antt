@@ -71,21 +71,21 @@ pub record Shape : Type 0 where
   pub rank : ℕ
   pub regular : Bool
 
-abbrev pub shaped : ℕ → Bool → Shape
-shaped rank regular = record { rank = rank; regular = regular }
+abbrev pub shape : ℕ → Bool → Shape
+shape rank regular = record { rank = rank; regular = regular }
 
 -- a regular expression of this rank or a tighter one
-abbrev pub stands : ℕ → Shape → Bool
-stands rank x = nat_le rank x.rank && x.regular
+abbrev pub has_rank : ℕ → Shape → Bool
+has_rank rank x = nat_le rank x.rank && x.regular
 
 -- an operator's rank, with the operand behind it
-pub record Part : Type 0 where
+pub record RankedOperand : Type 0 where
   pub rank : ℕ
   pub value : Shape
 
 -- an operator of this rank, whose operand is tighter
-abbrev pub joins : ℕ → Part → Bool
-joins rank p = nat_eq p.rank rank && stands (suc rank) p.value
+abbrev pub is_operand_at : ℕ → RankedOperand → Bool
+is_operand_at rank p = nat_eq p.rank rank && has_rank (suc rank) p.value
 
 abbrev pub all_true : List Bool → Bool
 all_true [] = true
@@ -95,9 +95,9 @@ abbrev pub all_regular : List Shape → Bool
 all_regular [] = true
 all_regular (x ∷ xs) = x.regular && all_regular xs
 
-abbrev pub if_there : Option Bool → Bool
-if_there None = true
-if_there (Some b) = b
+abbrev pub or_true : Option Bool → Bool
+or_true None = true
+or_true (Some b) = b
 
 -- without a cast the behaviour's identifier is the first token
 abbrev pub first_place : ℕ → Option Ident → Ident → Bool
@@ -105,73 +105,73 @@ first_place at None behavior = nat_eq at behavior.at
 first_place at (Some name) behavior = true
 
 -- an operand, then at least one operator, all of one rank
-abbrev pub level_shape : Shape → List Part → Shape
-level_shape first [] = shaped primary false
-level_shape first (p ∷ ps) = shaped p.rank (stands (suc p.rank) first && list_all (joins p.rank) (p ∷ ps))
+abbrev pub level_shape : Shape → List RankedOperand → Shape
+level_shape first [] = shape primary false
+level_shape first (p ∷ ps) = shape p.rank (has_rank (suc p.rank) first && list_all (is_operand_at p.rank) (p ∷ ps))
 
 -- a primary expression, then at least one index or `.length`
 abbrev pub suffixed_shape : Shape → List Bool → Shape
-suffixed_shape first [] = shaped primary false
-suffixed_shape first (b ∷ bs) = shaped postfix (stands primary first && all_true (b ∷ bs))
+suffixed_shape first [] = shape primary false
+suffixed_shape first (b ∷ bs) = shape postfix (has_rank primary first && all_true (b ∷ bs))
 
 -- an expression, from the shapes of its parts
-abbrev pub shape_step : Expr-F Shape Bool Bool Part → Shape
+abbrev pub shape_step : Expr-F Shape Bool Bool RankedOperand → Shape
 -- Number | Str | "true" | "false" | "null" | "self" | Id | "this" "." Id
-shape_step (Expr-F.Number n at) = shaped primary true
-shape_step (Expr-F.Str text at) = shaped primary true
-shape_step (Expr-F.Bool b at) = shaped primary true
-shape_step (Expr-F.Null at) = shaped primary true
-shape_step (Expr-F.Me at) = shaped primary true
-shape_step (Expr-F.Name name) = shaped primary true
-shape_step (Expr-F.Own at name) = shaped primary true
+shape_step (Expr-F.Number n at) = shape primary true
+shape_step (Expr-F.Str text at) = shape primary true
+shape_step (Expr-F.Bool b at) = shape primary true
+shape_step (Expr-F.Null at) = shape primary true
+shape_step (Expr-F.Me at) = shape primary true
+shape_step (Expr-F.Name name) = shape primary true
+shape_step (Expr-F.Own at name) = shape primary true
 -- "(" expr ")"
-shape_step (Expr-F.Paren at x) = shaped primary x.regular
+shape_step (Expr-F.Paren at x) = shape primary x.regular
 -- ( "-" | "!" ) unary
-shape_step (Expr-F.Neg at x) = shaped unary (stands unary x)
-shape_step (Expr-F.Not at x) = shaped unary (stands unary x)
+shape_step (Expr-F.Neg at x) = shape unary (has_rank unary x)
+shape_step (Expr-F.Not at x) = shape unary (has_rank unary x)
 -- an operand { operator operand }
 shape_step (Expr-F.Level first rest) = level_shape first rest
 -- primary { "[" expr "]" | "." "length" }
 shape_step (Expr-F.Suffixed first rest) = suffixed_shape first rest
 -- "new" Id "(" [ expr { "," expr } ] ")" [ "at" "(" expr [ "," expr ] ")" ]
-shape_step (Expr-F.New at behavior args place) = shaped primary (all_regular args && if_there place)
+shape_step (Expr-F.New at behavior args place) = shape primary (all_regular args && or_true place)
 -- "new" base "[" expr "]" { "[" "]" }
-shape_step (Expr-F.Make at sort size) = shaped postfix (nat_le 1 sort.dims && size.regular)
+shape_step (Expr-F.Make at sort size) = shape postfix (nat_le 1 sort.dims && size.regular)
 -- "new" base "[" "]" { "[" "]" } "{" [ expr { "," expr } ] "}"
-shape_step (Expr-F.ListOf at sort items) = shaped postfix (nat_le 1 sort.dims && all_regular items)
+shape_step (Expr-F.ListOf at sort items) = shape postfix (nat_le 1 sort.dims && all_regular items)
 -- [ "(" Id ")" ] Id "." "getReferenceByName" "(" expr ")"
-shape_step (Expr-F.ByName at cast behavior name) = shaped primary (first_place at cast behavior && name.regular)
+shape_step (Expr-F.ByName at cast behavior name) = shape primary (first_place at cast behavior && name.regular)
 
 -- "[" expr "]" | "." "length"
-abbrev pub suffix_step : Suffix-F Shape Bool Bool Part → Bool
+abbrev pub suffix_step : Suffix-F Shape Bool Bool RankedOperand → Bool
 suffix_step (Suffix-F.Index at x) = x.regular
 suffix_step (Suffix-F.Length at) = true
 
 -- "at" "(" expr [ "," expr ] ")"
-abbrev pub at_step : At-F Shape Bool Bool Part → Bool
-at_step p = p.uan.regular && if_there (option_map (λ (x : Shape). x.regular) p.ual)
+abbrev pub at_step : At-F Shape Bool Bool RankedOperand → Bool
+at_step p = p.uan.regular && or_true (option_map (λ (x : Shape). x.regular) p.ual)
 
-abbrev pub operand_step : Operand-F Shape Bool Bool Part → Part
+abbrev pub operand_step : Operand-F Shape Bool Bool RankedOperand → RankedOperand
 operand_step o = record { rank = rank_of o.op; value = o.value }
 
 unfoldable pub shape_of : Expr → Shape
-shape_of = fold-Expr Shape Bool Bool Part shape_step suffix_step at_step operand_step
+shape_of = fold-Expr Shape Bool Bool RankedOperand shape_step suffix_step at_step operand_step
 
 unfoldable pub suffix_is_regular : Suffix → Bool
-suffix_is_regular = fold-Suffix Shape Bool Bool Part shape_step suffix_step at_step operand_step
+suffix_is_regular = fold-Suffix Shape Bool Bool RankedOperand shape_step suffix_step at_step operand_step
 
 unfoldable pub at_is_regular : At → Bool
-at_is_regular = fold-At Shape Bool Bool Part shape_step suffix_step at_step operand_step
+at_is_regular = fold-At Shape Bool Bool RankedOperand shape_step suffix_step at_step operand_step
 
-unfoldable pub part_of : Operand → Part
-part_of = fold-Operand Shape Bool Bool Part shape_step suffix_step at_step operand_step
+unfoldable pub ranked_operand : Operand → RankedOperand
+ranked_operand = fold-Operand Shape Bool Bool RankedOperand shape_step suffix_step at_step operand_step
 
 abbrev pub expr_is_regular : Expr → Bool
 expr_is_regular x = (shape_of x).regular
 
 -- [ expr ]
 abbrev pub option_is_regular : Option Expr → Bool
-option_is_regular x = if_there (option_map expr_is_regular x)
+option_is_regular x = or_true (option_map expr_is_regular x)
 
 -- ---- statements
 
@@ -193,7 +193,7 @@ init_is_regular (init.Assign a) = assign_is_regular a
 abbrev pub aim_is_regular : Aim → Bool
 aim_is_regular aim.Own = true
 aim_is_regular (aim.Output at) = true
-aim_is_regular (aim.Actor x) = stands postfix (shape_of x)
+aim_is_regular (aim.Actor x) = has_rank postfix (shape_of x)
 
 -- "token" | expr
 abbrev pub arg_is_regular : Arg → Bool
@@ -218,22 +218,22 @@ pub record Form : Type 0 where
   pub regular : Bool
   pub takes_else : Bool
 
-abbrev pub formed : Bool → Bool → Form
-formed regular takes_else = record { regular = regular; takes_else = takes_else }
+abbrev pub form : Bool → Bool → Form
+form regular takes_else = record { regular = regular; takes_else = takes_else }
 
-abbrev pub all_formed : List Form → Bool
-all_formed [] = true
-all_formed (s ∷ ss) = s.regular && all_formed ss
+abbrev pub all_forms_regular : List Form → Bool
+all_forms_regular [] = true
+all_forms_regular (s ∷ ss) = s.regular && all_forms_regular ss
 
 -- "if" "(" expr ")" stmt [ "else" stmt ], where with an `else` the first statement takes none
 abbrev pub if_form : Bool → Form → Option Form → Form
-if_form test first None = formed (test && first.regular) true
-if_form test first (Some second) = formed (test && first.regular && not first.takes_else && second.regular) second.takes_else
+if_form test first None = form (test && first.regular) true
+if_form test first (Some second) = form (test && first.regular && not first.takes_else && second.regular) second.takes_else
 
 abbrev pub stage_step : Stage-F Bool Form Bool → Bool
 -- message | "join" block
 stage_step (Stage-F.Message m) = send_is_regular m
-stage_step (Stage-F.Join at body) = all_formed body
+stage_step (Stage-F.Join at body) = all_forms_regular body
 
 -- stage { "@" stage }
 abbrev pub chain_step : Chain-F Bool Form Bool → Bool
@@ -242,23 +242,23 @@ chain_step c = has_any c.stages && all_true c.stages
 -- a statement, from the forms of its parts
 abbrev pub stmt_step : Stmt-F Bool Form Bool → Form
 -- ";" | block | decl ";" | assign ";"
-stmt_step (Stmt-F.Empty at) = formed true false
-stmt_step (Stmt-F.Block at list) = formed (all_formed list) false
-stmt_step (Stmt-F.Declare d) = formed (declare_is_regular d) false
-stmt_step (Stmt-F.Assign a) = formed (assign_is_regular a) false
+stmt_step (Stmt-F.Empty at) = form true false
+stmt_step (Stmt-F.Block at list) = form (all_forms_regular list) false
+stmt_step (Stmt-F.Declare d) = form (declare_is_regular d) false
+stmt_step (Stmt-F.Assign a) = form (assign_is_regular a) false
 -- "if" "(" expr ")" stmt [ "else" stmt ]
 stmt_step (Stmt-F.If at test first second) = if_form (expr_is_regular test) first second
 -- "while" "(" expr ")" stmt
-stmt_step (Stmt-F.While at test body) = formed (expr_is_regular test && body.regular) body.takes_else
+stmt_step (Stmt-F.While at test body) = form (expr_is_regular test && body.regular) body.takes_else
 -- "for" "(" [ decl | assign ] ";" [ expr ] ";" [ assign ] ")" stmt
 stmt_step (Stmt-F.For at first test next body) =
-    formed (init_is_regular first && option_is_regular test && if_there (option_map assign_is_regular next) && body.regular) body.takes_else
+    form (init_is_regular first && option_is_regular test && or_true (option_map assign_is_regular next) && body.regular) body.takes_else
 -- "return" [ expr ] ";"
-stmt_step (Stmt-F.Return at value) = formed (option_is_regular value) false
+stmt_step (Stmt-F.Return at value) = form (option_is_regular value) false
 -- "token" Id "=" chain ";"
-stmt_step (Stmt-F.Token at name chain) = formed chain false
+stmt_step (Stmt-F.Token at name chain) = form chain false
 -- chain [ "@" "currentContinuation" ] ";"
-stmt_step (Stmt-F.Chain chain passed) = formed chain false
+stmt_step (Stmt-F.Chain chain passed) = form chain false
 
 unfoldable pub stage_is_regular : Stage → Bool
 stage_is_regular = fold-Stage Bool Form Bool stage_step stmt_step chain_step
@@ -273,7 +273,7 @@ chain_is_regular = fold-Chain Bool Form Bool stage_step stmt_step chain_step
 
 -- "{" { stmt } "}"
 abbrev pub block_is_regular : List Stmt → Bool
-block_is_regular body = all_formed (map form_of body)
+block_is_regular body = all_forms_regular (map form_of body)
 
 -- type Id [ "=" expr ] ";" | Id "(" [ params ] ")" block | ( type | "void" ) Id "(" [ params ] ")" block
 abbrev pub member_is_regular : Member → Bool

@@ -26,7 +26,7 @@ use Rattle.sal_ast.specs.declared.statement.Stmt.{Stmt}
 use Rattle.sal_ast.specs.declared.statement.Chain.{Chain}
 use Rattle.sal_ast.specs.declared.statement.Stage.TheOpen.{Stage-F, Stmt-F, Chain-F}
 use Rattle.sal_ast.specs.declared.statement.Stage.TheFolds.{fold-Stmt, fold-Chain}
-use Rattle.sal_ast.specs.Members.{Field, Handler, fields_of, behavior_named, handlers_at}
+use Rattle.sal_ast.specs.Members.{Field, Handler, fields_of, behavior_by_name, handlers_at}
 
 -- ---- types
 
@@ -39,15 +39,15 @@ abbrev pub plain : Base → Option Sort
 plain b = Some (record { base = b; dims = 0 })
 
 -- the behaviour of this name
-abbrev pub actor_named : List ℕ → List Behavior → Option Base
-actor_named name behaviors = option_map base.Actor (behavior_named name behaviors)
+abbrev pub actor_base : List ℕ → List Behavior → Option Base
+actor_base name behaviors = option_map base.Actor (behavior_by_name name behaviors)
 
 -- what the name of a base type means, if it is known
 abbrev pub base_of : BaseName → List Behavior → Option Base
 base_of word.Int behaviors = Some base.Int
 base_of word.Boolean behaviors = Some base.Bool
 base_of word.Str behaviors = Some base.Str
-base_of (word.Actor name) behaviors = actor_named name behaviors
+base_of (word.Actor name) behaviors = actor_base name behaviors
 
 -- the type with so many pairs of brackets
 abbrev pub sort_with : Option Base → ℕ → Option Sort
@@ -115,8 +115,8 @@ name_sort name s = sort_of_local (find (λ v. bytes_eq v.name name) s.locals) (f
 -- ---- expressions
 
 -- a type, or none, that hangs on what is in scope
-abbrev pub Sorted : Type 0
-Sorted = Scope → Option Sort
+abbrev pub SortInScope : Type 0
+SortInScope = Scope → Option Sort
 
 -- `String` without brackets
 abbrev pub is_text_base : Base → ℕ → Bool
@@ -124,13 +124,13 @@ is_text_base base.Str zero = true
 is_text_base _ _ = false
 
 -- whether values of this type are texts
-abbrev pub is_text : Option Sort → Bool
-is_text None = false
-is_text (Some s) = is_text_base s.base s.dims
+abbrev pub is_text_sort : Option Sort → Bool
+is_text_sort None = false
+is_text_sort (Some s) = is_text_base s.base s.dims
 
 -- what an operator gives on operands of these types
 abbrev pub operator_sort : Op → Option Sort → Option Sort → Option Sort
-operator_sort op.Add a b = if is_text a || is_text b then plain base.Str else plain base.Int
+operator_sort op.Add a b = if is_text_sort a || is_text_sort b then plain base.Str else plain base.Int
 operator_sort op.Sub a b = plain base.Int
 operator_sort op.Mul a b = plain base.Int
 operator_sort op.Div a b = plain base.Int
@@ -138,7 +138,7 @@ operator_sort op.Rem a b = plain base.Int
 operator_sort _ a b = plain base.Bool
 
 -- operators of one level, from left to right
-abbrev pub level_sort : Option Sort → List (Op × Sorted) → Scope → Option Sort
+abbrev pub level_sort : Option Sort → List (Op × SortInScope) → Scope → Option Sort
 level_sort a [] s = a
 level_sort a (p ∷ ps) s = level_sort (operator_sort p.0 a (p.1 s)) ps s
 
@@ -153,7 +153,7 @@ suffixed_sort a [] = a
 suffixed_sort a (p ∷ ps) = suffixed_sort (suffix_sort p a) ps
 
 -- the type of each form of expression, made of the types of its parts; `null` has none
-abbrev pub sort_step : Expr-F Sorted Bool (Unit {0}) (Op × Sorted) → Sorted
+abbrev pub sort_step : Expr-F SortInScope Bool (Unit {0}) (Op × SortInScope) → SortInScope
 sort_step (Expr-F.Number n at) s = plain base.Int
 sort_step (Expr-F.Str text at) s = plain base.Str
 sort_step (Expr-F.Bool b at) s = plain base.Bool
@@ -166,27 +166,27 @@ sort_step (Expr-F.Neg at e) s = plain base.Int
 sort_step (Expr-F.Not at e) s = plain base.Bool
 sort_step (Expr-F.Level first rest) s = level_sort (first s) rest s
 sort_step (Expr-F.Suffixed first rest) s = suffixed_sort (first s) rest
-sort_step (Expr-F.New at behavior args place) s = sort_with (actor_named behavior.text s.behaviors) 0
+sort_step (Expr-F.New at behavior args place) s = sort_with (actor_base behavior.text s.behaviors) 0
 sort_step (Expr-F.Make at sort size) s = type_sort sort s.behaviors
 sort_step (Expr-F.ListOf at sort items) s = type_sort sort s.behaviors
-sort_step (Expr-F.ByName at cast behavior name) s = sort_with (actor_named behavior.text s.behaviors) 0
+sort_step (Expr-F.ByName at cast behavior name) s = sort_with (actor_base behavior.text s.behaviors) 0
 
 -- whether it is an index
-abbrev pub suffix_step : Suffix-F Sorted Bool (Unit {0}) (Op × Sorted) → Bool
+abbrev pub suffix_step : Suffix-F SortInScope Bool (Unit {0}) (Op × SortInScope) → Bool
 suffix_step (Suffix-F.Index at e) = true
 suffix_step (Suffix-F.Length at) = false
 
 -- where an actor is created says nothing of its type
-abbrev pub at_step : At-F Sorted Bool (Unit {0}) (Op × Sorted) → Unit {0}
+abbrev pub at_step : At-F SortInScope Bool (Unit {0}) (Op × SortInScope) → Unit {0}
 at_step a = tt
 
 -- an operator with the type of its right side
-abbrev pub operand_step : Operand-F Sorted Bool (Unit {0}) (Op × Sorted) → Op × Sorted
+abbrev pub operand_step : Operand-F SortInScope Bool (Unit {0}) (Op × SortInScope) → Op × SortInScope
 operand_step p = (p.op, p.value)
 
 -- the type of an expression
-unfoldable pub sort_of : Expr → Sorted
-sort_of = fold-Expr Sorted Bool (Unit {0}) (Op × Sorted) sort_step suffix_step at_step operand_step
+unfoldable pub sort_of : Expr → SortInScope
+sort_of = fold-Expr SortInScope Bool (Unit {0}) (Op × SortInScope) sort_step suffix_step at_step operand_step
 
 -- ---- messages
 
@@ -230,60 +230,60 @@ aim_result aim.Own name s = actor_result name (Some s.mine) s.behaviors
 aim_result (aim.Actor e) name s = actor_result name (behavior_of (sort_of e s)) s.behaviors
 
 -- what a message's reply is
-unfoldable pub message_result : Send → Sorted
+unfoldable pub message_result : Send → SortInScope
 message_result m s = aim_result m.aim m.handler.text s
 
 -- ---- chains and joins
 
 -- what is in scope behind a statement, and the result of the first chain in it, if there is one
-pub record Seen : Type 0 where
+pub record ScopeAndResult : Type 0 where
   pub scope : Scope
   pub result : Option (Option Sort)
 
 -- what a part does to the scope, and the first chain's result in it
-abbrev pub Sees : Type 0
-Sees = Scope → Seen
+abbrev pub ScopeChange : Type 0
+ScopeChange = Scope → ScopeAndResult
 
 -- the first result of two, if there is one
-abbrev pub first_of : Option (Option Sort) → Option (Option Sort) → Option (Option Sort)
-first_of None later = later
-first_of (Some r) later = Some r
+abbrev pub first_result : Option (Option Sort) → Option (Option Sort) → Option (Option Sort)
+first_result None later = later
+first_result (Some r) later = Some r
 
 -- one more local, the newest
-abbrev pub with_local : List ℕ → Option Sort → Scope → Scope
-with_local name sort s = record s { locals = s.locals ++ record { name = name; sort = sort } ∷ [] }
+abbrev pub scope_with_local : List ℕ → Option Sort → Scope → Scope
+scope_with_local name sort s = record s { locals = s.locals ++ record { name = name; sort = sort } ∷ [] }
 
 -- nothing is declared, and there is no chain
-abbrev pub nothing_in : Scope → Seen
-nothing_in s = record { scope = s; result = None }
+abbrev pub no_change : Scope → ScopeAndResult
+no_change s = record { scope = s; result = None }
 
 -- what a part declares is out of scope behind it
-abbrev pub inside : Sees → Sees
-inside m s = record { scope = s; result = (m s).result }
+abbrev pub inner_change : ScopeChange → ScopeChange
+inner_change m s = record { scope = s; result = (m s).result }
 
 -- one part and then another, in the scope that the first leaves
-abbrev pub together : Sees → Sees → Sees
-together m n s = record { scope = (n (m s).scope).scope; result = first_of (m s).result (n (m s).scope).result }
+abbrev pub change_then : ScopeChange → ScopeChange → ScopeChange
+change_then m n s = record { scope = (n (m s).scope).scope; result = first_result (m s).result (n (m s).scope).result }
 
 -- several parts, one after another
-abbrev pub sees_all : List Sees → Sees
-sees_all [] s = nothing_in s
-sees_all (m ∷ ms) s = together m (sees_all ms) s
+abbrev pub changes_in_order : List ScopeChange → ScopeChange
+changes_in_order [] s = no_change s
+changes_in_order (m ∷ ms) s = change_then m (changes_in_order ms) s
 
 -- what stands behind `else`, if there is an `else`
-abbrev pub sees_else : Option Sees → Sees
-sees_else None s = nothing_in s
-sees_else (Some m) s = inside m s
+abbrev pub else_change : Option ScopeChange → ScopeChange
+else_change None s = no_change s
+else_change (Some m) s = inner_change m s
 
 -- a declaration adds its local
-abbrev pub sees_declared : Declare → Sees
-sees_declared d s = nothing_in (with_local d.name.text (type_sort d.sort s.behaviors) s)
+abbrev pub declare_change : Declare → ScopeChange
+declare_change d s = no_change (scope_with_local d.name.text (type_sort d.sort s.behaviors) s)
 
 -- the first part of a `for`
-abbrev pub sees_begun : ForInit → Sees
-sees_begun init.Nothing s = nothing_in s
-sees_begun (init.Declare d) s = sees_declared d s
-sees_begun (init.Assign a) s = nothing_in s
+abbrev pub for_init_change : ForInit → ScopeChange
+for_init_change init.Nothing s = no_change s
+for_init_change (init.Declare d) s = declare_change d s
+for_init_change (init.Assign a) s = no_change s
 
 -- the result of a join whose own chains have this result: void, or an array of it
 abbrev pub join_sort : Option Sort → Option Sort
@@ -300,45 +300,45 @@ join_result None = None
 join_result (Some r) = join_sort r
 
 -- the result of a chain is that of its last stage
-abbrev pub last_result : Option Sort → List Sorted → Scope → Option Sort
+abbrev pub last_result : Option Sort → List SortInScope → Scope → Option Sort
 last_result before [] s = before
 last_result before (m ∷ ms) s = last_result (m s) ms s
 
 -- the result of a stage: a message's reply, or a join's array
-abbrev pub see_stage : Stage-F Sorted Sees Sorted → Sorted
-see_stage (Stage-F.Message m) s = message_result m s
-see_stage (Stage-F.Join at body) s = join_result (sees_all body s).result
+abbrev pub stage_sort_step : Stage-F SortInScope ScopeChange SortInScope → SortInScope
+stage_sort_step (Stage-F.Message m) s = message_result m s
+stage_sort_step (Stage-F.Join at body) s = join_result (changes_in_order body s).result
 
 -- what each kind of statement adds to the scope, and its first chain's result
-abbrev pub see_stmt : Stmt-F Sorted Sees Sorted → Sees
-see_stmt (Stmt-F.Empty at) s = nothing_in s
-see_stmt (Stmt-F.Block at list) s = inside (sees_all list) s
-see_stmt (Stmt-F.Declare d) s = sees_declared d s
-see_stmt (Stmt-F.Assign a) s = nothing_in s
-see_stmt (Stmt-F.If at test first second) s = inside (together (inside first) (sees_else second)) s
-see_stmt (Stmt-F.While at test body) s = inside body s
-see_stmt (Stmt-F.For at first test next body) s = inside (together (sees_begun first) body) s
-see_stmt (Stmt-F.Return at value) s = nothing_in s
-see_stmt (Stmt-F.Token at name chain) s = nothing_in (with_local name.text None s)
-see_stmt (Stmt-F.Chain chain passed) s = record { scope = s; result = Some (chain s) }
+abbrev pub scope_change_step : Stmt-F SortInScope ScopeChange SortInScope → ScopeChange
+scope_change_step (Stmt-F.Empty at) s = no_change s
+scope_change_step (Stmt-F.Block at list) s = inner_change (changes_in_order list) s
+scope_change_step (Stmt-F.Declare d) s = declare_change d s
+scope_change_step (Stmt-F.Assign a) s = no_change s
+scope_change_step (Stmt-F.If at test first second) s = inner_change (change_then (inner_change first) (else_change second)) s
+scope_change_step (Stmt-F.While at test body) s = inner_change body s
+scope_change_step (Stmt-F.For at first test next body) s = inner_change (change_then (for_init_change first) body) s
+scope_change_step (Stmt-F.Return at value) s = no_change s
+scope_change_step (Stmt-F.Token at name chain) s = no_change (scope_with_local name.text None s)
+scope_change_step (Stmt-F.Chain chain passed) s = record { scope = s; result = Some (chain s) }
 
 -- the result of a chain, made of those of its stages
-abbrev pub see_chain : Chain-F Sorted Sees Sorted → Sorted
-see_chain c = last_result None c.stages
+abbrev pub chain_sort_step : Chain-F SortInScope ScopeChange SortInScope → SortInScope
+chain_sort_step c = last_result None c.stages
 
 -- what a statement adds to the scope, and the result of the first chain in it; the chains inside a join
 -- are that join's own
-unfoldable pub sees : Stmt → Sees
-sees = fold-Stmt Sorted Sees Sorted see_stage see_stmt see_chain
+unfoldable pub scope_change : Stmt → ScopeChange
+scope_change = fold-Stmt SortInScope ScopeChange SortInScope stage_sort_step scope_change_step chain_sort_step
 
 -- the result of a chain
-unfoldable pub result_of : Chain → Sorted
-result_of = fold-Chain Sorted Sees Sorted see_stage see_stmt see_chain
+unfoldable pub result_of : Chain → SortInScope
+result_of = fold-Chain SortInScope ScopeChange SortInScope stage_sort_step scope_change_step chain_sort_step
 
 -- whether it is `void`
-abbrev pub is_void : Option Sort → Bool
-is_void None = false
-is_void (Some s) = is_void_alone s.base s.dims
+abbrev pub is_void_sort : Option Sort → Bool
+is_void_sort None = false
+is_void_sort (Some s) = is_void_alone s.base s.dims
   where
     is_void_alone : Base → ℕ → Bool
     is_void_alone base.Void zero = true
@@ -347,8 +347,8 @@ is_void (Some s) = is_void_alone s.base s.dims
 -- whether there is a chain whose result is `void`
 abbrev pub is_void_result : Option (Option Sort) → Bool
 is_void_result None = false
-is_void_result (Some r) = is_void r
+is_void_result (Some r) = is_void_sort r
 
 -- whether a join with this block is void: its own chains have no result
 unfoldable pub is_void_join : List Stmt → Scope → Bool
-is_void_join body s = is_void_result (sees_all (map sees body) s).result
+is_void_join body s = is_void_result (changes_in_order (map scope_change body) s).result

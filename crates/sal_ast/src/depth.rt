@@ -2,7 +2,7 @@
 
 ghost use Rattle.std.specs.Prelude.{◌≡◌, ◌+◌, min, map};
 ghost use Rattle.std.specs.Option.{option_map};
-ghost use Rattle.sal_ast.specs.Depth.{capped, greatest, if_there};
+ghost use Rattle.sal_ast.specs.Depth.{min_u32, greatest, or_zero};
 ghost use Rattle.sal_ast.specs.Depth as spec;
 
 use crate::expression::{At, Expr, Operand, Suffix};
@@ -20,7 +20,7 @@ fn inside(depth: u32) -> u32
 #[cycle(of_expr)]
 #[tactic(auto, using(crate::proofs::DepthEquations::equations))]
 fn of_expr(expr: &Expr) -> u32
-    ensures { result ≡ capped (spec.depth_expr expr.now) }
+    ensures { result ≡ min_u32 (spec.depth_expr expr.now) }
 {
     match expr {
         Expr::Number(_, _) => 0,
@@ -45,7 +45,7 @@ fn of_expr(expr: &Expr) -> u32
 #[cycle(of_expr)]
 #[tactic(auto, using(crate::proofs::DepthEquations::equations))]
 fn of_all(items: &[Expr]) -> u32
-    ensures { result ≡ capped (greatest (map spec.depth_expr items.now)) }
+    ensures { result ≡ min_u32 (greatest (map spec.depth_expr items.now)) }
 {
     let mut most = 0;
     for item in items {
@@ -57,7 +57,7 @@ fn of_all(items: &[Expr]) -> u32
 #[cycle(of_expr)]
 #[tactic(auto, using(crate::proofs::DepthEquations::equations))]
 fn of_operands(rest: &[Operand]) -> u32
-    ensures { result ≡ capped (greatest (map spec.depth_operand rest.now)) }
+    ensures { result ≡ min_u32 (greatest (map spec.depth_operand rest.now)) }
 {
     let mut most = 0;
     for operand in rest {
@@ -69,7 +69,7 @@ fn of_operands(rest: &[Operand]) -> u32
 #[cycle(of_expr)]
 #[tactic(auto, using(crate::proofs::DepthEquations::equations))]
 fn of_operand(operand: &Operand) -> u32
-    ensures { result ≡ capped (spec.depth_operand operand.now) }
+    ensures { result ≡ min_u32 (spec.depth_operand operand.now) }
 {
     of_expr(&operand.value)
 }
@@ -77,7 +77,7 @@ fn of_operand(operand: &Operand) -> u32
 #[cycle(of_expr)]
 #[tactic(auto, using(crate::proofs::DepthEquations::equations))]
 fn of_suffixes(rest: &[Suffix]) -> u32
-    ensures { result ≡ capped (greatest (map spec.depth_suffix rest.now)) }
+    ensures { result ≡ min_u32 (greatest (map spec.depth_suffix rest.now)) }
 {
     let mut most = 0;
     for suffix in rest {
@@ -89,7 +89,7 @@ fn of_suffixes(rest: &[Suffix]) -> u32
 #[cycle(of_expr)]
 #[tactic(auto, using(crate::proofs::DepthEquations::equations))]
 fn of_suffix(suffix: &Suffix) -> u32
-    ensures { result ≡ capped (spec.depth_suffix suffix.now) }
+    ensures { result ≡ min_u32 (spec.depth_suffix suffix.now) }
 {
     match suffix {
         Suffix::Index(_, index) => inside(of_expr(index)),
@@ -100,7 +100,7 @@ fn of_suffix(suffix: &Suffix) -> u32
 #[cycle(of_expr)]
 #[tactic(auto, using(crate::proofs::DepthEquations::equations))]
 fn of_place(place: &Option<Boxed<At>>) -> u32
-    ensures { result ≡ capped (if_there (option_map spec.depth_at place.now)) }
+    ensures { result ≡ min_u32 (or_zero (option_map spec.depth_at place.now)) }
 {
     match place {
         None => 0,
@@ -111,7 +111,7 @@ fn of_place(place: &Option<Boxed<At>>) -> u32
 #[cycle(of_expr)]
 #[tactic(auto, using(crate::proofs::DepthEquations::equations))]
 fn of_option(expr: &Option<Expr>) -> u32
-    ensures { result ≡ capped (if_there (option_map spec.depth_expr expr.now)) }
+    ensures { result ≡ min_u32 (or_zero (option_map spec.depth_expr expr.now)) }
 {
     match expr {
         None => 0,
@@ -120,19 +120,19 @@ fn of_option(expr: &Option<Expr>) -> u32
 }
 
 fn of_declare(declare: &Declare) -> u32
-    ensures { result ≡ capped (spec.depth_declare declare.now) }
+    ensures { result ≡ min_u32 (spec.depth_declare declare.now) }
 {
     of_option(&declare.init)
 }
 
 fn of_index(index: &Expr) -> u32
-    ensures { result ≡ capped (spec.depth_index index.now) }
+    ensures { result ≡ min_u32 (spec.depth_index index.now) }
 {
     inside(of_expr(index))
 }
 
 fn of_indexes(indexes: &[Expr]) -> u32
-    ensures { result ≡ capped (greatest (map spec.depth_index indexes.now)) }
+    ensures { result ≡ min_u32 (greatest (map spec.depth_index indexes.now)) }
 {
     let mut most = 0;
     for index in indexes {
@@ -142,13 +142,13 @@ fn of_indexes(indexes: &[Expr]) -> u32
 }
 
 fn of_assign(assign: &Assign) -> u32
-    ensures { result ≡ capped (spec.depth_assign assign.now) }
+    ensures { result ≡ min_u32 (spec.depth_assign assign.now) }
 {
     of_indexes(assign.indexes.as_slice()).max(of_expr(&assign.value))
 }
 
 fn of_init(init: &ForInit) -> u32
-    ensures { result ≡ capped (spec.depth_init init.now) }
+    ensures { result ≡ min_u32 (spec.depth_init init.now) }
 {
     match init {
         ForInit::Nothing => 0,
@@ -158,7 +158,7 @@ fn of_init(init: &ForInit) -> u32
 }
 
 fn of_next(next: &Option<Assign>) -> u32
-    ensures { result ≡ capped (if_there (option_map spec.depth_assign next.now)) }
+    ensures { result ≡ min_u32 (or_zero (option_map spec.depth_assign next.now)) }
 {
     match next {
         None => 0,
@@ -167,7 +167,7 @@ fn of_next(next: &Option<Assign>) -> u32
 }
 
 fn of_aim(aim: &Aim) -> u32
-    ensures { result ≡ capped (spec.depth_aim aim.now) }
+    ensures { result ≡ min_u32 (spec.depth_aim aim.now) }
 {
     match aim {
         Aim::Own => 0,
@@ -177,7 +177,7 @@ fn of_aim(aim: &Aim) -> u32
 }
 
 fn of_arg(arg: &Arg) -> u32
-    ensures { result ≡ capped (spec.depth_arg arg.now) }
+    ensures { result ≡ min_u32 (spec.depth_arg arg.now) }
 {
     match arg {
         Arg::Token(_) => 0,
@@ -186,7 +186,7 @@ fn of_arg(arg: &Arg) -> u32
 }
 
 fn of_args(args: &[Arg]) -> u32
-    ensures { result ≡ capped (greatest (map spec.depth_arg args.now)) }
+    ensures { result ≡ min_u32 (greatest (map spec.depth_arg args.now)) }
 {
     let mut most = 0;
     for arg in args {
@@ -196,7 +196,7 @@ fn of_args(args: &[Arg]) -> u32
 }
 
 fn of_property(property: &Property) -> u32
-    ensures { result ≡ capped (spec.depth_property property.now) }
+    ensures { result ≡ min_u32 (spec.depth_property property.now) }
 {
     match property {
         Property::Delay { time, .. } => of_expr(time),
@@ -205,7 +205,7 @@ fn of_property(property: &Property) -> u32
 }
 
 fn of_properties(properties: &[Property]) -> u32
-    ensures { result ≡ capped (greatest (map spec.depth_property properties.now)) }
+    ensures { result ≡ min_u32 (greatest (map spec.depth_property properties.now)) }
 {
     let mut most = 0;
     for property in properties {
@@ -216,7 +216,7 @@ fn of_properties(properties: &[Property]) -> u32
 
 #[tactic(auto, unfolding(crate::specs::Depth::depth_send))]
 fn of_send(send: &Send) -> u32
-    ensures { result ≡ capped (spec.depth_send send.now) }
+    ensures { result ≡ min_u32 (spec.depth_send send.now) }
 {
     let parts = of_args(send.args.as_slice()).max(of_properties(send.properties.as_slice()));
     of_aim(&send.aim).max(parts)
@@ -225,7 +225,7 @@ fn of_send(send: &Send) -> u32
 #[cycle(of_stmt)]
 #[tactic(auto, using(crate::proofs::DepthEquations::equations))]
 fn of_stmt(stmt: &Stmt) -> u32
-    ensures { result ≡ capped (spec.depth_stmt stmt.now) }
+    ensures { result ≡ min_u32 (spec.depth_stmt stmt.now) }
 {
     match stmt {
         Stmt::Empty(_) => 0,
@@ -255,7 +255,7 @@ fn of_stmt(stmt: &Stmt) -> u32
 #[cycle(of_stmt)]
 #[tactic(auto, using(crate::proofs::DepthEquations::equations))]
 fn of_body(body: &[Stmt]) -> u32
-    ensures { result ≡ capped (greatest (map spec.depth_stmt body.now)) }
+    ensures { result ≡ min_u32 (greatest (map spec.depth_stmt body.now)) }
 {
     let mut most = 0;
     for stmt in body {
@@ -267,7 +267,7 @@ fn of_body(body: &[Stmt]) -> u32
 #[cycle(of_stmt)]
 #[tactic(auto, using(crate::proofs::DepthEquations::equations))]
 fn of_else(stmt: &Option<Boxed<Stmt>>) -> u32
-    ensures { result ≡ capped (if_there (option_map spec.depth_stmt stmt.now)) }
+    ensures { result ≡ min_u32 (or_zero (option_map spec.depth_stmt stmt.now)) }
 {
     match stmt {
         None => 0,
@@ -278,7 +278,7 @@ fn of_else(stmt: &Option<Boxed<Stmt>>) -> u32
 #[cycle(of_stmt)]
 #[tactic(auto, using(crate::proofs::DepthEquations::equations))]
 fn of_chain(chain: &Chain) -> u32
-    ensures { result ≡ capped (spec.depth_chain chain.now) }
+    ensures { result ≡ min_u32 (spec.depth_chain chain.now) }
 {
     of_stages(chain.stages.as_slice())
 }
@@ -286,7 +286,7 @@ fn of_chain(chain: &Chain) -> u32
 #[cycle(of_stmt)]
 #[tactic(auto, using(crate::proofs::DepthEquations::equations))]
 fn of_stages(stages: &[Stage]) -> u32
-    ensures { result ≡ capped (greatest (map spec.depth_stage stages.now)) }
+    ensures { result ≡ min_u32 (greatest (map spec.depth_stage stages.now)) }
 {
     let mut most = 0;
     for stage in stages {
@@ -298,7 +298,7 @@ fn of_stages(stages: &[Stage]) -> u32
 #[cycle(of_stmt)]
 #[tactic(auto, using(crate::proofs::DepthEquations::equations))]
 fn of_stage(stage: &Stage) -> u32
-    ensures { result ≡ capped (spec.depth_stage stage.now) }
+    ensures { result ≡ min_u32 (spec.depth_stage stage.now) }
 {
     match stage {
         Stage::Message(send) => of_send(send),
@@ -307,7 +307,7 @@ fn of_stage(stage: &Stage) -> u32
 }
 
 fn of_member(member: &Member) -> u32
-    ensures { result ≡ capped (spec.depth_member member.now) }
+    ensures { result ≡ min_u32 (spec.depth_member member.now) }
 {
     match member {
         Member::Field { init, .. } => of_option(init),
@@ -317,7 +317,7 @@ fn of_member(member: &Member) -> u32
 }
 
 fn of_behavior(behavior: &Behavior) -> u32
-    ensures { result ≡ capped (spec.depth_behavior behavior.now) }
+    ensures { result ≡ min_u32 (spec.depth_behavior behavior.now) }
 {
     let mut most = 0;
     for member in behavior.members.as_slice() {

@@ -2,7 +2,7 @@
 
 ghost use Rattle.std.specs.Prelude.{◌≡◌, ◌∷◌, ◌++◌, [], map, decimal, OnOk, None, Some};
 ghost use Rattle.std.specs.Option.{option_map};
-ghost use Rattle.sal_ast.specs.Spell.{Adds, Pieces, piece, identifier, all, joined, if_there, brackets};
+ghost use Rattle.sal_ast.specs.Spell.{Adds, TreeTokens, tree_token, identifier, concat_tokens, separated_tokens, or_no_tokens, brackets};
 ghost use Rattle.sal_ast.specs.Spell as spec;
 ghost use Rattle.sal_ast.specs.declared.lexeme.Kind.TheVariants as kind;
 
@@ -18,27 +18,31 @@ pub(crate) fn push(
     kind: Kind,
     text: &str,
 ) -> Result<(), NoMemory>
-    ensures { OnOk result (Adds out.old out.new (piece kind text.now None)) }
+    ensures { OnOk result (Adds out.old out.new (tree_token kind text.now None)) }
 {
     let text = Text::from_text(alloc, text)?;
     out.push(Lexeme { kind, text })
 }
 
 pub(crate) fn word(alloc: Global, out: &mut List<Lexeme>, text: &str) -> Result<(), NoMemory>
-    ensures { OnOk result (Adds out.old out.new (piece kind.Word text.now None)) }
+    ensures { OnOk result (Adds out.old out.new (tree_token kind.Word text.now None)) }
 {
     push(alloc, out, Kind::Word, text)
 }
 
 pub(crate) fn sign(alloc: Global, out: &mut List<Lexeme>, text: &str) -> Result<(), NoMemory>
-    ensures { OnOk result (Adds out.old out.new (piece kind.Sign text.now None)) }
+    ensures { OnOk result (Adds out.old out.new (tree_token kind.Sign text.now None)) }
 {
     push(alloc, out, Kind::Sign, text)
 }
 
 /// An identifier that the grammar spells out.
-pub(crate) fn named(alloc: Global, out: &mut List<Lexeme>, text: &str) -> Result<(), NoMemory>
-    ensures { OnOk result (Adds out.old out.new (piece kind.Id text.now None)) }
+pub(crate) fn fixed_identifier(
+    alloc: Global,
+    out: &mut List<Lexeme>,
+    text: &str,
+) -> Result<(), NoMemory>
+    ensures { OnOk result (Adds out.old out.new (tree_token kind.Id text.now None)) }
 {
     push(alloc, out, Kind::Id, text)
 }
@@ -50,7 +54,7 @@ pub(crate) fn ident(alloc: Global, out: &mut List<Lexeme>, name: &Ident) -> Resu
 }
 
 fn number(alloc: Global, out: &mut List<Lexeme>, number: u32) -> Result<(), NoMemory>
-    ensures { OnOk result (Adds out.old out.new (piece kind.Number (decimal number) None)) }
+    ensures { OnOk result (Adds out.old out.new (tree_token kind.Number (decimal number) None)) }
 {
     let text = Text::from_string(format!(in alloc; "{number}")?);
     push(alloc, out, Kind::Number, text.as_str())
@@ -135,7 +139,7 @@ fn getter(alloc: Global, out: &mut List<Lexeme>, behavior: &Ident) -> Result<(),
 {
     ident(alloc, out, behavior)?;
     sign(alloc, out, ".")?;
-    named(alloc, out, "getReferenceByName")
+    fixed_identifier(alloc, out, "getReferenceByName")
 }
 
 /// A reference by name as far as its parenthesis.
@@ -208,7 +212,7 @@ pub(crate) fn expr(alloc: Global, out: &mut List<Lexeme>, tree: &Expr) -> Result
             sign(alloc, out, "(")?;
             exprs(alloc, out, args.as_slice())?;
             sign(alloc, out, ")")?;
-            placed(alloc, out, place)
+            location(alloc, out, place)
         }
         Expr::Make { sort, size, .. } => {
             word(alloc, out, "new")?;
@@ -242,7 +246,7 @@ pub(crate) fn expr(alloc: Global, out: &mut List<Lexeme>, tree: &Expr) -> Result
 /// With commas between them.
 #[cycle(expr)]
 fn exprs(alloc: Global, out: &mut List<Lexeme>, items: &[Expr]) -> Result<(), NoMemory>
-    ensures { OnOk result (Adds out.old out.new (joined "," (map spec.spell_expr items.now))) }
+    ensures { OnOk result (Adds out.old out.new (separated_tokens "," (map spec.spell_expr items.now))) }
 {
     let mut begun = false;
     for item in items {
@@ -255,7 +259,7 @@ fn exprs(alloc: Global, out: &mut List<Lexeme>, items: &[Expr]) -> Result<(), No
 
 #[cycle(expr)]
 fn operands(alloc: Global, out: &mut List<Lexeme>, rest: &[Operand]) -> Result<(), NoMemory>
-    ensures { OnOk result (Adds out.old out.new (all (map spec.spell_operand rest.now))) }
+    ensures { OnOk result (Adds out.old out.new (concat_tokens (map spec.spell_operand rest.now))) }
 {
     for item in rest {
         operand(alloc, out, item)?;
@@ -274,7 +278,7 @@ fn operand(alloc: Global, out: &mut List<Lexeme>, item: &Operand) -> Result<(), 
 
 #[cycle(expr)]
 fn suffixes(alloc: Global, out: &mut List<Lexeme>, rest: &[Suffix]) -> Result<(), NoMemory>
-    ensures { OnOk result (Adds out.old out.new (all (map spec.spell_suffix rest.now))) }
+    ensures { OnOk result (Adds out.old out.new (concat_tokens (map spec.spell_suffix rest.now))) }
 {
     for item in rest {
         suffix(alloc, out, item)?;
@@ -295,7 +299,7 @@ fn suffix(alloc: Global, out: &mut List<Lexeme>, item: &Suffix) -> Result<(), No
         }
         Suffix::Length(_) => {
             sign(alloc, out, ".")?;
-            named(alloc, out, "length")
+            fixed_identifier(alloc, out, "length")
         }
     }
 }
@@ -303,13 +307,17 @@ fn suffix(alloc: Global, out: &mut List<Lexeme>, item: &Suffix) -> Result<(), No
 /// The texts of `at`.
 #[cycle(expr)]
 #[tactic(auto, using(std::proofs::lemmas::Grind::common_steps, crate::proofs::SpellEquations::equations))]
-fn placed(alloc: Global, out: &mut List<Lexeme>, place: &Option<Boxed<At>>) -> Result<(), NoMemory>
-    ensures { OnOk result (Adds out.old out.new (if_there (option_map spec.spell_at place.now))) }
+fn location(
+    alloc: Global,
+    out: &mut List<Lexeme>,
+    place: &Option<Boxed<At>>,
+) -> Result<(), NoMemory>
+    ensures { OnOk result (Adds out.old out.new (or_no_tokens (option_map spec.spell_at place.now))) }
 {
     match place {
         None => Ok(()),
         Some(texts) => {
-            named(alloc, out, "at")?;
+            fixed_identifier(alloc, out, "at")?;
             sign(alloc, out, "(")?;
             expr(alloc, out, &texts.get().uan)?;
             second(alloc, out, &texts.get().ual)?;

@@ -2,13 +2,13 @@
 
 ghost use Rattle.std.specs.Prelude.{◌≡◌, ◌∷◌, ◌++◌, [], map, OnOk, IfOk};
 ghost use Rattle.std.specs.Option.{option_map};
-ghost use Rattle.sal_ast.specs.Spell.{Adds, identifier, all, joined, if_there, lexemes};
+ghost use Rattle.sal_ast.specs.Spell.{Adds, identifier, concat_tokens, separated_tokens, or_no_tokens, lexemes};
 ghost use Rattle.sal_ast.specs.Spell as spec;
 
 use crate::expression::Expr;
 use crate::lexeme::Lexeme;
 use crate::program::{Behavior, Ident, Member, Param, Program, TypeName};
-use crate::spell::{expr, ident, named, sign, sign_if, type_name, word};
+use crate::spell::{expr, fixed_identifier, ident, sign, sign_if, type_name, word};
 use crate::statement::{Aim, Arg, Assign, Chain, Declare, ForInit, Property, Send, Stage, Stmt};
 use sal_value::{Boxed, List, NoMemory};
 use std::alloc::Global;
@@ -52,7 +52,7 @@ fn index(alloc: Global, out: &mut List<Lexeme>, index: &Expr) -> Result<(), NoMe
 }
 
 fn indexes(alloc: Global, out: &mut List<Lexeme>, items: &[Expr]) -> Result<(), NoMemory>
-    ensures { OnOk result (Adds out.old out.new (all (map spec.spell_index items.now))) }
+    ensures { OnOk result (Adds out.old out.new (concat_tokens (map spec.spell_index items.now))) }
 {
     for item in items {
         index(alloc, out, item)?;
@@ -92,7 +92,7 @@ fn init(alloc: Global, out: &mut List<Lexeme>, init: &ForInit) -> Result<(), NoM
 }
 
 fn next(alloc: Global, out: &mut List<Lexeme>, next: &Option<Assign>) -> Result<(), NoMemory>
-    ensures { OnOk result (Adds out.old out.new (if_there (option_map spec.spell_assign next.now))) }
+    ensures { OnOk result (Adds out.old out.new (or_no_tokens (option_map spec.spell_assign next.now))) }
 {
     match next {
         None => Ok(()),
@@ -145,7 +145,7 @@ fn arg(alloc: Global, out: &mut List<Lexeme>, arg: &Arg) -> Result<(), NoMemory>
 }
 
 fn args(alloc: Global, out: &mut List<Lexeme>, items: &[Arg]) -> Result<(), NoMemory>
-    ensures { OnOk result (Adds out.old out.new (joined "," (map spec.spell_arg items.now))) }
+    ensures { OnOk result (Adds out.old out.new (separated_tokens "," (map spec.spell_arg items.now))) }
 {
     let mut begun = false;
     for item in items {
@@ -157,7 +157,7 @@ fn args(alloc: Global, out: &mut List<Lexeme>, items: &[Arg]) -> Result<(), NoMe
 }
 
 fn names(alloc: Global, out: &mut List<Lexeme>, items: &[Ident]) -> Result<(), NoMemory>
-    ensures { OnOk result (Adds out.old out.new (joined "," (map identifier items.now))) }
+    ensures { OnOk result (Adds out.old out.new (separated_tokens "," (map identifier items.now))) }
 {
     let mut begun = false;
     for item in items {
@@ -174,13 +174,13 @@ fn property(alloc: Global, out: &mut List<Lexeme>, property: &Property) -> Resul
     sign(alloc, out, ":")?;
     match property {
         Property::Delay { time, .. } => {
-            named(alloc, out, "delay")?;
+            fixed_identifier(alloc, out, "delay")?;
             sign(alloc, out, "(")?;
             expr(alloc, out, time)?;
             sign(alloc, out, ")")
         }
         Property::WaitFor { names: waited, .. } => {
-            named(alloc, out, "waitfor")?;
+            fixed_identifier(alloc, out, "waitfor")?;
             sign(alloc, out, "(")?;
             names(alloc, out, waited.as_slice())?;
             sign(alloc, out, ")")
@@ -189,7 +189,7 @@ fn property(alloc: Global, out: &mut List<Lexeme>, property: &Property) -> Resul
 }
 
 fn properties(alloc: Global, out: &mut List<Lexeme>, items: &[Property]) -> Result<(), NoMemory>
-    ensures { OnOk result (Adds out.old out.new (all (map spec.spell_property items.now))) }
+    ensures { OnOk result (Adds out.old out.new (concat_tokens (map spec.spell_property items.now))) }
 {
     for item in items {
         property(alloc, out, item)?;
@@ -284,7 +284,7 @@ fn block(alloc: Global, out: &mut List<Lexeme>, items: &[Stmt]) -> Result<(), No
 
 #[cycle(stmt)]
 fn body(alloc: Global, out: &mut List<Lexeme>, items: &[Stmt]) -> Result<(), NoMemory>
-    ensures { OnOk result (Adds out.old out.new (all (map spec.spell_stmt items.now))) }
+    ensures { OnOk result (Adds out.old out.new (concat_tokens (map spec.spell_stmt items.now))) }
 {
     for item in items {
         stmt(alloc, out, item)?;
@@ -299,7 +299,7 @@ fn otherwise(
     out: &mut List<Lexeme>,
     tree: &Option<Boxed<Stmt>>,
 ) -> Result<(), NoMemory>
-    ensures { OnOk result (Adds out.old out.new (spec.else_pieces (option_map spec.spell_stmt tree.now))) }
+    ensures { OnOk result (Adds out.old out.new (spec.else_tokens (option_map spec.spell_stmt tree.now))) }
 {
     match tree {
         None => Ok(()),
@@ -312,7 +312,7 @@ fn otherwise(
 
 #[cycle(stmt)]
 fn stages(alloc: Global, out: &mut List<Lexeme>, items: &[Stage]) -> Result<(), NoMemory>
-    ensures { OnOk result (Adds out.old out.new (joined "@" (map spec.spell_stage items.now))) }
+    ensures { OnOk result (Adds out.old out.new (separated_tokens "@" (map spec.spell_stage items.now))) }
 {
     let mut begun = false;
     for item in items {
@@ -338,7 +338,7 @@ fn stage(alloc: Global, out: &mut List<Lexeme>, tree: &Stage) -> Result<(), NoMe
 }
 
 fn continuation(alloc: Global, out: &mut List<Lexeme>, passed: &Option<u32>) -> Result<(), NoMemory>
-    ensures { OnOk result (Adds out.old out.new (spec.spell_passed passed.now)) }
+    ensures { OnOk result (Adds out.old out.new (spec.spell_continuation passed.now)) }
 {
     match passed {
         None => Ok(()),
@@ -357,7 +357,7 @@ fn param(alloc: Global, out: &mut List<Lexeme>, param: &Param) -> Result<(), NoM
 }
 
 fn params(alloc: Global, out: &mut List<Lexeme>, items: &[Param]) -> Result<(), NoMemory>
-    ensures { OnOk result (Adds out.old out.new (joined "," (map spec.spell_param items.now))) }
+    ensures { OnOk result (Adds out.old out.new (separated_tokens "," (map spec.spell_param items.now))) }
 {
     let mut begun = false;
     for item in items {
@@ -370,7 +370,7 @@ fn params(alloc: Global, out: &mut List<Lexeme>, items: &[Param]) -> Result<(), 
 
 /// Parameters and the block behind them.
 #[tactic(auto, using(std::proofs::lemmas::Grind::common_steps))]
-fn signed(
+fn signature(
     alloc: Global,
     out: &mut List<Lexeme>,
     name: &Ident,
@@ -386,7 +386,11 @@ fn signed(
     block(alloc, out, body)
 }
 
-fn returned(alloc: Global, out: &mut List<Lexeme>, sort: &Option<TypeName>) -> Result<(), NoMemory>
+fn result_type(
+    alloc: Global,
+    out: &mut List<Lexeme>,
+    sort: &Option<TypeName>,
+) -> Result<(), NoMemory>
     ensures { OnOk result (Adds out.old out.new (spec.spell_result sort.now)) }
 {
     match sort {
@@ -407,7 +411,7 @@ fn member(alloc: Global, out: &mut List<Lexeme>, member: &Member) -> Result<(), 
             sign(alloc, out, ";")
         }
         Member::Constructor { name, params, body } => {
-            signed(alloc, out, name, params.as_slice(), body.as_slice())
+            signature(alloc, out, name, params.as_slice(), body.as_slice())
         }
         Member::Handler {
             result: sort,
@@ -415,14 +419,14 @@ fn member(alloc: Global, out: &mut List<Lexeme>, member: &Member) -> Result<(), 
             params,
             body,
         } => {
-            returned(alloc, out, sort)?;
-            signed(alloc, out, name, params.as_slice(), body.as_slice())
+            result_type(alloc, out, sort)?;
+            signature(alloc, out, name, params.as_slice(), body.as_slice())
         }
     }
 }
 
 fn members(alloc: Global, out: &mut List<Lexeme>, items: &[Member]) -> Result<(), NoMemory>
-    ensures { OnOk result (Adds out.old out.new (all (map spec.spell_member items.now))) }
+    ensures { OnOk result (Adds out.old out.new (concat_tokens (map spec.spell_member items.now))) }
 {
     for item in items {
         member(alloc, out, item)?;

@@ -185,7 +185,7 @@ fn counted(
     }
 }
 
-fn returned(value: Option<Expr>) -> Stmt {
+fn result_type(value: Option<Expr>) -> Stmt {
     Stmt::Return { at: 0, value }
 }
 
@@ -220,7 +220,7 @@ fn branches(alloc: Global) -> List<Stmt> {
     let test = level(alloc, name(alloc, "a"), Op::Same, string(alloc, "s"));
     let body = Stmt::Assign(set(alloc, "y", Expr::Null(0)));
     let no = Boxed::new(alloc, looped(alloc, Expr::Bool(false, 0), body)).ok();
-    let list = and(list, when(alloc, test, returned(None), no));
+    let list = and(list, when(alloc, test, result_type(None), no));
     let test = suffixed(alloc, name(alloc, "n"), number(1));
     and(list, when(alloc, test, Stmt::Empty(0), None))
 }
@@ -239,8 +239,8 @@ fn loops(alloc: Global, list: List<Stmt>) -> List<Stmt> {
         Stmt::Empty(0),
     );
     let first = ForInit::Assign(set(alloc, "i", number(0)));
-    let assigned = counted(alloc, first, None, None, returned(Some(Expr::Me(0))));
-    let body = returned(Some(Expr::Me(0)));
+    let assigned = counted(alloc, first, None, None, result_type(Some(Expr::Me(0))));
+    let body = result_type(Some(Expr::Me(0)));
     let bare = counted(alloc, ForInit::Nothing, None, None, body);
     and(and(and(list, full), assigned), bare)
 }
@@ -344,7 +344,7 @@ fn members(alloc: Global) -> List<Member> {
         init: Some(make(alloc)),
     };
     let value = Some(not(alloc, Expr::Bool(true, 0)));
-    let answer = one(alloc, returned(value));
+    let answer = one(alloc, result_type(value));
     let truth = Some(sort(BaseName::Boolean, 0));
     let statements = loops(alloc, branches(alloc));
     let chains = and(one(alloc, token(alloc)), passing(alloc));

@@ -14,81 +14,81 @@ use Rattle.sal_ast.specs.declared.statement.Stage.TheViews.{roll-Stage, roll-Stm
 use Rattle.sal_ast.specs.declared.statement.Stage.TheFolds.{map-Stage, map-Stmt, map-Chain, fold-roll-Stage, fold-roll-Stmt, fold-roll-Chain, fold_out-Chain, ind-Stmt}
 use Rattle.sal_ast.specs.declared.statement.Stmt.TheVariants as t
 use Rattle.sal_ast.specs.declared.statement.Stage.TheVariants as g
-use Rattle.sal_handler.specs.Statements.{StageSense, Sense, ChainSense, stage_step, stmt_step, chain_step, stage_sense, sense, chain_sense, exec, stage, part, doing, blocked, ended, named, declared, assigned, truth, while_true, for_all, begun, goes_on, stepped, first_value, join}
+use Rattle.sal_handler.specs.Statements.{StageWithTree, StmtWithTree, ChainWithTree, stage_step, stmt_step, chain_step, stage_with_tree, stmt_with_tree, chain_with_tree, exec, exec_stage, tree_of, denotation_of, sequence_in_scope, exec_chain_stmt, exec_token_stmt, exec_declare, exec_assign, eval_test, while_loop, for_loop, exec_for_init, eval_for_test, exec_for_next, initial_value, exec_join_stage}
 use Rattle.sal_value.specs.declared.value.Value.TheVariants.{Null}
 use Rattle.sal_ast.specs.Sorts.{is_void_join}
 use Rattle.sal_ast.proofs.Closing.{Known}
 use Rattle.sal_handler.specs.declared.state.Flow.TheVariants.{Next, Returned}
 use Rattle.sal_handler.specs.Evaluation.{◌>>=◌, ◌>>◌, pure}
-use Rattle.sal_handler.specs.Scopes.{Reads, scope_of, scoped}
+use Rattle.sal_handler.specs.Scopes.{Context, scope_of, in_new_scope}
 use Rattle.sal_handler.specs.Messages.{message}
 
-sense-Empty : (at : ℕ) → sense (t.Empty at) ≡ stmt_step (Stmt-F.Empty at)
-unfolding stage_sense sense chain_sense
-sense-Empty at = ap sense (sym (t.rolls-Empty at)) ∙ fold-roll-Stmt StageSense Sense ChainSense stage_step stmt_step chain_step (Stmt-F.Empty at)
+sense-Empty : (at : ℕ) → stmt_with_tree (t.Empty at) ≡ stmt_step (Stmt-F.Empty at)
+unfolding stage_with_tree stmt_with_tree chain_with_tree
+sense-Empty at = ap stmt_with_tree (sym (t.rolls-Empty at)) ∙ fold-roll-Stmt StageWithTree StmtWithTree ChainWithTree stage_step stmt_step chain_step (Stmt-F.Empty at)
 
-sense-Block : (at : ℕ) (list : List Stmt) → sense (t.Block at list) ≡ stmt_step (Stmt-F.Block at (map sense list))
-unfolding stage_sense sense chain_sense
-sense-Block at list = ap sense (sym (t.rolls-Block at list)) ∙ fold-roll-Stmt StageSense Sense ChainSense stage_step stmt_step chain_step (Stmt-F.Block at list)
+sense-Block : (at : ℕ) (list : List Stmt) → stmt_with_tree (t.Block at list) ≡ stmt_step (Stmt-F.Block at (map stmt_with_tree list))
+unfolding stage_with_tree stmt_with_tree chain_with_tree
+sense-Block at list = ap stmt_with_tree (sym (t.rolls-Block at list)) ∙ fold-roll-Stmt StageWithTree StmtWithTree ChainWithTree stage_step stmt_step chain_step (Stmt-F.Block at list)
 
-sense-Declare : (d : Declare) → sense (t.Declare d) ≡ stmt_step (Stmt-F.Declare d)
-unfolding stage_sense sense chain_sense
-sense-Declare d = ap sense (sym (t.rolls-Declare d)) ∙ fold-roll-Stmt StageSense Sense ChainSense stage_step stmt_step chain_step (Stmt-F.Declare d)
+sense-Declare : (d : Declare) → stmt_with_tree (t.Declare d) ≡ stmt_step (Stmt-F.Declare d)
+unfolding stage_with_tree stmt_with_tree chain_with_tree
+sense-Declare d = ap stmt_with_tree (sym (t.rolls-Declare d)) ∙ fold-roll-Stmt StageWithTree StmtWithTree ChainWithTree stage_step stmt_step chain_step (Stmt-F.Declare d)
 
-sense-Assign : (a : Assign) → sense (t.Assign a) ≡ stmt_step (Stmt-F.Assign a)
-unfolding stage_sense sense chain_sense
-sense-Assign a = ap sense (sym (t.rolls-Assign a)) ∙ fold-roll-Stmt StageSense Sense ChainSense stage_step stmt_step chain_step (Stmt-F.Assign a)
+sense-Assign : (a : Assign) → stmt_with_tree (t.Assign a) ≡ stmt_step (Stmt-F.Assign a)
+unfolding stage_with_tree stmt_with_tree chain_with_tree
+sense-Assign a = ap stmt_with_tree (sym (t.rolls-Assign a)) ∙ fold-roll-Stmt StageWithTree StmtWithTree ChainWithTree stage_step stmt_step chain_step (Stmt-F.Assign a)
 
-sense-While : (at : ℕ) (test : Expr) (body : Stmt) → sense (t.While at test body) ≡ stmt_step (Stmt-F.While at test (sense body))
-unfolding stage_sense sense chain_sense
-sense-While at test body = ap sense (sym (t.rolls-While at test body)) ∙ fold-roll-Stmt StageSense Sense ChainSense stage_step stmt_step chain_step (Stmt-F.While at test body)
+sense-While : (at : ℕ) (test : Expr) (body : Stmt) → stmt_with_tree (t.While at test body) ≡ stmt_step (Stmt-F.While at test (stmt_with_tree body))
+unfolding stage_with_tree stmt_with_tree chain_with_tree
+sense-While at test body = ap stmt_with_tree (sym (t.rolls-While at test body)) ∙ fold-roll-Stmt StageWithTree StmtWithTree ChainWithTree stage_step stmt_step chain_step (Stmt-F.While at test body)
 
-sense-For : (at : ℕ) (first : ForInit) (test : Option Expr) (next : Option Assign) (body : Stmt) → sense (t.For at first test next body) ≡ stmt_step (Stmt-F.For at first test next (sense body))
-unfolding stage_sense sense chain_sense
-sense-For at first test next body = ap sense (sym (t.rolls-For at first test next body)) ∙ fold-roll-Stmt StageSense Sense ChainSense stage_step stmt_step chain_step (Stmt-F.For at first test next body)
+sense-For : (at : ℕ) (first : ForInit) (test : Option Expr) (next : Option Assign) (body : Stmt) → stmt_with_tree (t.For at first test next body) ≡ stmt_step (Stmt-F.For at first test next (stmt_with_tree body))
+unfolding stage_with_tree stmt_with_tree chain_with_tree
+sense-For at first test next body = ap stmt_with_tree (sym (t.rolls-For at first test next body)) ∙ fold-roll-Stmt StageWithTree StmtWithTree ChainWithTree stage_step stmt_step chain_step (Stmt-F.For at first test next body)
 
-sense-Return : (at : ℕ) (value : Option Expr) → sense (t.Return at value) ≡ stmt_step (Stmt-F.Return at value)
-unfolding stage_sense sense chain_sense
-sense-Return at value = ap sense (sym (t.rolls-Return at value)) ∙ fold-roll-Stmt StageSense Sense ChainSense stage_step stmt_step chain_step (Stmt-F.Return at value)
+sense-Return : (at : ℕ) (value : Option Expr) → stmt_with_tree (t.Return at value) ≡ stmt_step (Stmt-F.Return at value)
+unfolding stage_with_tree stmt_with_tree chain_with_tree
+sense-Return at value = ap stmt_with_tree (sym (t.rolls-Return at value)) ∙ fold-roll-Stmt StageWithTree StmtWithTree ChainWithTree stage_step stmt_step chain_step (Stmt-F.Return at value)
 
-sense-Token : (at : ℕ) (name : Ident) (c : Chain) → sense (t.Token at name c) ≡ stmt_step (Stmt-F.Token at name (chain_sense c))
-unfolding stage_sense sense chain_sense
-sense-Token at name c = ap sense (sym (t.rolls-Token at name c)) ∙ fold-roll-Stmt StageSense Sense ChainSense stage_step stmt_step chain_step (Stmt-F.Token at name c)
+sense-Token : (at : ℕ) (name : Ident) (c : Chain) → stmt_with_tree (t.Token at name c) ≡ stmt_step (Stmt-F.Token at name (chain_with_tree c))
+unfolding stage_with_tree stmt_with_tree chain_with_tree
+sense-Token at name c = ap stmt_with_tree (sym (t.rolls-Token at name c)) ∙ fold-roll-Stmt StageWithTree StmtWithTree ChainWithTree stage_step stmt_step chain_step (Stmt-F.Token at name c)
 
-sense-Chain : (c : Chain) (passed : Option ℕ) → sense (t.Chain c passed) ≡ stmt_step (Stmt-F.Chain (chain_sense c) passed)
-unfolding stage_sense sense chain_sense
-sense-Chain c passed = ap sense (sym (t.rolls-Chain c passed)) ∙ fold-roll-Stmt StageSense Sense ChainSense stage_step stmt_step chain_step (Stmt-F.Chain c passed)
+sense-Chain : (c : Chain) (passed : Option ℕ) → stmt_with_tree (t.Chain c passed) ≡ stmt_step (Stmt-F.Chain (chain_with_tree c) passed)
+unfolding stage_with_tree stmt_with_tree chain_with_tree
+sense-Chain c passed = ap stmt_with_tree (sym (t.rolls-Chain c passed)) ∙ fold-roll-Stmt StageWithTree StmtWithTree ChainWithTree stage_step stmt_step chain_step (Stmt-F.Chain c passed)
 
-sense-IfNone : (at : ℕ) (test : Expr) (a : Stmt) → sense (t.If at test a None) ≡ stmt_step (Stmt-F.If at test (sense a) None)
-unfolding stage_sense sense chain_sense
-sense-IfNone at test a = ap sense (sym (t.rolls-If at test a None)) ∙ fold-roll-Stmt StageSense Sense ChainSense stage_step stmt_step chain_step (Stmt-F.If at test a None)
+sense-IfNone : (at : ℕ) (test : Expr) (a : Stmt) → stmt_with_tree (t.If at test a None) ≡ stmt_step (Stmt-F.If at test (stmt_with_tree a) None)
+unfolding stage_with_tree stmt_with_tree chain_with_tree
+sense-IfNone at test a = ap stmt_with_tree (sym (t.rolls-If at test a None)) ∙ fold-roll-Stmt StageWithTree StmtWithTree ChainWithTree stage_step stmt_step chain_step (Stmt-F.If at test a None)
 
-sense-IfSome : (at : ℕ) (test : Expr) (a b : Stmt) → sense (t.If at test a (Some b)) ≡ stmt_step (Stmt-F.If at test (sense a) (Some (sense b)))
-unfolding stage_sense sense chain_sense
-sense-IfSome at test a b = ap sense (sym (t.rolls-If at test a (Some b))) ∙ fold-roll-Stmt StageSense Sense ChainSense stage_step stmt_step chain_step (Stmt-F.If at test a (Some b))
+sense-IfSome : (at : ℕ) (test : Expr) (a b : Stmt) → stmt_with_tree (t.If at test a (Some b)) ≡ stmt_step (Stmt-F.If at test (stmt_with_tree a) (Some (stmt_with_tree b)))
+unfolding stage_with_tree stmt_with_tree chain_with_tree
+sense-IfSome at test a b = ap stmt_with_tree (sym (t.rolls-If at test a (Some b))) ∙ fold-roll-Stmt StageWithTree StmtWithTree ChainWithTree stage_step stmt_step chain_step (Stmt-F.If at test a (Some b))
 
-sense-Message : (m : Send) → stage_sense (g.Message m) ≡ stage_step (Stage-F.Message m)
-unfolding stage_sense sense chain_sense
-sense-Message m = ap stage_sense (sym (g.rolls-Message m)) ∙ fold-roll-Stage StageSense Sense ChainSense stage_step stmt_step chain_step (Stage-F.Message m)
+sense-Message : (m : Send) → stage_with_tree (g.Message m) ≡ stage_step (Stage-F.Message m)
+unfolding stage_with_tree stmt_with_tree chain_with_tree
+sense-Message m = ap stage_with_tree (sym (g.rolls-Message m)) ∙ fold-roll-Stage StageWithTree StmtWithTree ChainWithTree stage_step stmt_step chain_step (Stage-F.Message m)
 
-sense-Join : (at : ℕ) (body : List Stmt) → stage_sense (g.Join at body) ≡ stage_step (Stage-F.Join at (map sense body))
-unfolding stage_sense sense chain_sense
-sense-Join at body = ap stage_sense (sym (g.rolls-Join at body)) ∙ fold-roll-Stage StageSense Sense ChainSense stage_step stmt_step chain_step (Stage-F.Join at body)
+sense-Join : (at : ℕ) (body : List Stmt) → stage_with_tree (g.Join at body) ≡ stage_step (Stage-F.Join at (map stmt_with_tree body))
+unfolding stage_with_tree stmt_with_tree chain_with_tree
+sense-Join at body = ap stage_with_tree (sym (g.rolls-Join at body)) ∙ fold-roll-Stage StageWithTree StmtWithTree ChainWithTree stage_step stmt_step chain_step (Stage-F.Join at body)
 
-sense_chain : (c : Chain) → (chain_sense c).1 ≡ map doing (map stage_sense c.stages)
-unfolding stage_sense sense chain_sense
-sense_chain c = ap (λ x. x.1) (fold_out-Chain StageSense Sense ChainSense stage_step stmt_step chain_step c)
+sense_chain : (c : Chain) → (chain_with_tree c).1 ≡ map denotation_of (map stage_with_tree c.stages)
+unfolding stage_with_tree stmt_with_tree chain_with_tree
+sense_chain c = ap (λ x. x.1) (fold_out-Chain StageWithTree StmtWithTree ChainWithTree stage_step stmt_step chain_step c)
 
 -- what stands beside a meaning is the part itself
 
 abbrev GP : Stage → Type 0
-GP x = (stage_sense x).0 ≡ x
+GP x = (stage_with_tree x).0 ≡ x
 
 abbrev TP : Stmt → Type 0
-TP x = (sense x).0 ≡ x
+TP x = (stmt_with_tree x).0 ≡ x
 
 abbrev CP : Chain → Type 0
-CP x = (chain_sense x).0 ≡ x
+CP x = (chain_with_tree x).0 ≡ x
 
 abbrev LayerG : Type 0
 LayerG = Stage-F (Known Stage GP) (Known Stmt TP) (Known Chain CP)
@@ -108,29 +108,29 @@ stmt_trees = map-Stmt (Known Stage GP) (Known Stmt TP) (Known Chain CP) Stage St
 abbrev chain_trees : LayerC → Chain-F Stage Stmt Chain
 chain_trees = map-Chain (Known Stage GP) (Known Stmt TP) (Known Chain CP) Stage Stmt Chain (λ z. z.0) (λ z. z.0) (λ z. z.0)
 
-abbrev stage_senses : Stage-F Stage Stmt Chain → Stage-F StageSense Sense ChainSense
-stage_senses = map-Stage Stage Stmt Chain StageSense Sense ChainSense stage_sense sense chain_sense
+abbrev stage_senses : Stage-F Stage Stmt Chain → Stage-F StageWithTree StmtWithTree ChainWithTree
+stage_senses = map-Stage Stage Stmt Chain StageWithTree StmtWithTree ChainWithTree stage_with_tree stmt_with_tree chain_with_tree
 
-abbrev stmt_senses : Stmt-F Stage Stmt Chain → Stmt-F StageSense Sense ChainSense
-stmt_senses = map-Stmt Stage Stmt Chain StageSense Sense ChainSense stage_sense sense chain_sense
+abbrev stmt_senses : Stmt-F Stage Stmt Chain → Stmt-F StageWithTree StmtWithTree ChainWithTree
+stmt_senses = map-Stmt Stage Stmt Chain StageWithTree StmtWithTree ChainWithTree stage_with_tree stmt_with_tree chain_with_tree
 
-abbrev chain_senses : Chain-F Stage Stmt Chain → Chain-F StageSense Sense ChainSense
-chain_senses = map-Chain Stage Stmt Chain StageSense Sense ChainSense stage_sense sense chain_sense
+abbrev chain_senses : Chain-F Stage Stmt Chain → Chain-F StageWithTree StmtWithTree ChainWithTree
+chain_senses = map-Chain Stage Stmt Chain StageWithTree StmtWithTree ChainWithTree stage_with_tree stmt_with_tree chain_with_tree
 
-abbrev stage_parts : Stage-F StageSense Sense ChainSense → Stage-F Stage Stmt Chain
-stage_parts = map-Stage StageSense Sense ChainSense Stage Stmt Chain part part part
+abbrev stage_parts : Stage-F StageWithTree StmtWithTree ChainWithTree → Stage-F Stage Stmt Chain
+stage_parts = map-Stage StageWithTree StmtWithTree ChainWithTree Stage Stmt Chain tree_of tree_of tree_of
 
-abbrev stmt_parts : Stmt-F StageSense Sense ChainSense → Stmt-F Stage Stmt Chain
-stmt_parts = map-Stmt StageSense Sense ChainSense Stage Stmt Chain part part part
+abbrev stmt_parts : Stmt-F StageWithTree StmtWithTree ChainWithTree → Stmt-F Stage Stmt Chain
+stmt_parts = map-Stmt StageWithTree StmtWithTree ChainWithTree Stage Stmt Chain tree_of tree_of tree_of
 
-abbrev chain_parts : Chain-F StageSense Sense ChainSense → Chain-F Stage Stmt Chain
-chain_parts = map-Chain StageSense Sense ChainSense Stage Stmt Chain part part part
+abbrev chain_parts : Chain-F StageWithTree StmtWithTree ChainWithTree → Chain-F Stage Stmt Chain
+chain_parts = map-Chain StageWithTree StmtWithTree ChainWithTree Stage Stmt Chain tree_of tree_of tree_of
 
-all_part : (list : List (Known Stmt TP)) → map part (map sense (map (λ z. z.0) list)) ≡ map (λ z. z.0) list
+all_part : (list : List (Known Stmt TP)) → map tree_of (map stmt_with_tree (map (λ z. z.0) list)) ≡ map (λ z. z.0) list
 all_part [] = refl
 all_part (x ∷ xs) = rw (x.1, all_part xs) refl
 
-all_stage_part : (list : List (Known Stage GP)) → map part (map stage_sense (map (λ z. z.0) list)) ≡ map (λ z. z.0) list
+all_stage_part : (list : List (Known Stage GP)) → map tree_of (map stage_with_tree (map (λ z. z.0) list)) ≡ map (λ z. z.0) list
 all_stage_part [] = refl
 all_stage_part (x ∷ xs) = rw (x.1, all_stage_part xs) refl
 
@@ -155,77 +155,77 @@ chain_again : (y : LayerC) → chain_parts (chain_senses (chain_trees y)) ≡ ch
 chain_again y = ap (λ l. record { stages = l }) (all_stage_part y.stages)
 
 stage_layer : (y : LayerG) → GP (roll-Stage (stage_trees y))
-unfolding stage_sense sense chain_sense
-stage_layer y = ap (λ x. x.0) (fold-roll-Stage StageSense Sense ChainSense stage_step stmt_step chain_step (stage_trees y)) ∙ ap roll-Stage (stage_again y)
+unfolding stage_with_tree stmt_with_tree chain_with_tree
+stage_layer y = ap (λ x. x.0) (fold-roll-Stage StageWithTree StmtWithTree ChainWithTree stage_step stmt_step chain_step (stage_trees y)) ∙ ap roll-Stage (stage_again y)
 
 stmt_layer : (y : LayerT) → TP (roll-Stmt (stmt_trees y))
-unfolding stage_sense sense chain_sense
-stmt_layer y = ap (λ x. x.0) (fold-roll-Stmt StageSense Sense ChainSense stage_step stmt_step chain_step (stmt_trees y)) ∙ ap roll-Stmt (stmt_again y)
+unfolding stage_with_tree stmt_with_tree chain_with_tree
+stmt_layer y = ap (λ x. x.0) (fold-roll-Stmt StageWithTree StmtWithTree ChainWithTree stage_step stmt_step chain_step (stmt_trees y)) ∙ ap roll-Stmt (stmt_again y)
 
 chain_layer : (y : LayerC) → CP (roll-Chain (chain_trees y))
-unfolding stage_sense sense chain_sense
-chain_layer y = ap (λ x. x.0) (fold-roll-Chain StageSense Sense ChainSense stage_step stmt_step chain_step (chain_trees y)) ∙ ap roll-Chain (chain_again y)
+unfolding stage_with_tree stmt_with_tree chain_with_tree
+chain_layer y = ap (λ x. x.0) (fold-roll-Chain StageWithTree StmtWithTree ChainWithTree stage_step stmt_step chain_step (chain_trees y)) ∙ ap roll-Chain (chain_again y)
 
 pub stmt_part : (x : Stmt) → TP x
 stmt_part = ind-Stmt GP TP CP (λ x y is. subst (λ z. GP (roll-Stage z)) is (stage_layer y)) (λ x y is. subst (λ z. TP (roll-Stmt z)) is (stmt_layer y)) (λ x y is. subst (λ z. CP (roll-Chain z)) is (chain_layer y))
 
 -- ---- the equations
 
-pub parts : (list : List Stmt) → map part (map sense list) ≡ list
+pub parts : (list : List Stmt) → map tree_of (map stmt_with_tree list) ≡ list
 parts [] = refl
 parts (x ∷ xs) = rw (stmt_part x, parts xs) refl
 
-pub doings : (list : List Stmt) → map doing (map sense list) ≡ map exec list
+pub doings : (list : List Stmt) → map denotation_of (map stmt_with_tree list) ≡ map exec list
 doings [] = refl
 doings (x ∷ xs) = ap (λ l. exec x ∷ l) (doings xs)
 
-stage_doings : (list : List Stage) → map doing (map stage_sense list) ≡ map stage list
+stage_doings : (list : List Stage) → map denotation_of (map stage_with_tree list) ≡ map exec_stage list
 stage_doings [] = refl
-stage_doings (x ∷ xs) = ap (λ l. stage x ∷ l) (stage_doings xs)
+stage_doings (x ∷ xs) = ap (λ l. exec_stage x ∷ l) (stage_doings xs)
 
-stages_of_chain : (c : Chain) → (chain_sense c).1 ≡ map stage c.stages
+stages_of_chain : (c : Chain) → (chain_with_tree c).1 ≡ map exec_stage c.stages
 stages_of_chain c = sense_chain c ∙ stage_doings c.stages
 
-pub exec-Empty : (at : ℕ) (r : Reads) → exec (t.Empty at) r ≡ pure Next
+pub exec-Empty : (at : ℕ) (r : Context) → exec (t.Empty at) r ≡ pure Next
 exec-Empty at r = ap (λ x. x.1 r) (sense-Empty at)
 
-pub exec-Block : (at : ℕ) (list : List Stmt) (r : Reads) → exec (t.Block at list) r ≡ blocked (map exec list) r
-exec-Block at list r = ap (λ x. x.1 r) (sense-Block at list) ∙ ap (λ l. blocked l r) (doings list)
+pub exec-Block : (at : ℕ) (list : List Stmt) (r : Context) → exec (t.Block at list) r ≡ sequence_in_scope (map exec list) r
+exec-Block at list r = ap (λ x. x.1 r) (sense-Block at list) ∙ ap (λ l. sequence_in_scope l r) (doings list)
 
-pub exec-Declare : (d : Declare) (r : Reads) → exec (t.Declare d) r ≡ (declared d r >> pure Next)
+pub exec-Declare : (d : Declare) (r : Context) → exec (t.Declare d) r ≡ (exec_declare d r >> pure Next)
 exec-Declare d r = ap (λ x. x.1 r) (sense-Declare d)
 
-pub exec-Assign : (a : Assign) (r : Reads) → exec (t.Assign a) r ≡ (assigned a r >> pure Next)
+pub exec-Assign : (a : Assign) (r : Context) → exec (t.Assign a) r ≡ (exec_assign a r >> pure Next)
 exec-Assign a r = ap (λ x. x.1 r) (sense-Assign a)
 
-pub exec-IfNone : (at : ℕ) (test : Expr) (a : Stmt) (r : Reads) → exec (t.If at test a None) r ≡ (truth test r >>= (λ b. if b then scoped (exec a r) else pure Next))
+pub exec-IfNone : (at : ℕ) (test : Expr) (a : Stmt) (r : Context) → exec (t.If at test a None) r ≡ (eval_test test r >>= (λ b. if b then in_new_scope (exec a r) else pure Next))
 exec-IfNone at test a r = ap (λ x. x.1 r) (sense-IfNone at test a)
 
-pub exec-IfSome : (at : ℕ) (test : Expr) (a b : Stmt) (r : Reads) → exec (t.If at test a (Some b)) r ≡ (truth test r >>= (λ c. if c then scoped (exec a r) else scoped (exec b r)))
+pub exec-IfSome : (at : ℕ) (test : Expr) (a b : Stmt) (r : Context) → exec (t.If at test a (Some b)) r ≡ (eval_test test r >>= (λ c. if c then in_new_scope (exec a r) else in_new_scope (exec b r)))
 exec-IfSome at test a b r = ap (λ x. x.1 r) (sense-IfSome at test a b)
 
-pub exec-While : (at : ℕ) (test : Expr) (body : Stmt) (r : Reads) → exec (t.While at test body) r ≡ while_true (truth test r) (exec body r)
+pub exec-While : (at : ℕ) (test : Expr) (body : Stmt) (r : Context) → exec (t.While at test body) r ≡ while_loop (eval_test test r) (exec body r)
 exec-While at test body r = ap (λ x. x.1 r) (sense-While at test body)
 
-pub exec-For : (at : ℕ) (first : ForInit) (test : Option Expr) (next : Option Assign) (body : Stmt) (r : Reads) → exec (t.For at first test next body) r ≡ for_all (begun first r) (goes_on test r) (stepped next r) (exec body r)
+pub exec-For : (at : ℕ) (first : ForInit) (test : Option Expr) (next : Option Assign) (body : Stmt) (r : Context) → exec (t.For at first test next body) r ≡ for_loop (exec_for_init first r) (eval_for_test test r) (exec_for_next next r) (exec body r)
 exec-For at first test next body r = ap (λ x. x.1 r) (sense-For at first test next body)
 
-pub exec-Return : (at : ℕ) (value : Option Expr) (r : Reads) → exec (t.Return at value) r ≡ (first_value value Null r >>= (λ v. pure (Returned v)))
+pub exec-Return : (at : ℕ) (value : Option Expr) (r : Context) → exec (t.Return at value) r ≡ (initial_value value Null r >>= (λ v. pure (Returned v)))
 exec-Return at value r = ap (λ x. x.1 r) (sense-Return at value)
 
-pub exec-Token : (at : ℕ) (name : Ident) (c : Chain) (r : Reads) → exec (t.Token at name c) r ≡ named name.text (map stage c.stages) r
-exec-Token at name c r = ap (λ x. x.1 r) (sense-Token at name c) ∙ ap (λ l. named name.text l r) (stages_of_chain c)
+pub exec-Token : (at : ℕ) (name : Ident) (c : Chain) (r : Context) → exec (t.Token at name c) r ≡ exec_token_stmt name.text (map exec_stage c.stages) r
+exec-Token at name c r = ap (λ x. x.1 r) (sense-Token at name c) ∙ ap (λ l. exec_token_stmt name.text l r) (stages_of_chain c)
 
-pub exec-Chain : (c : Chain) (passed : Option ℕ) (r : Reads) → exec (t.Chain c passed) r ≡ ended passed (map stage c.stages) r
-exec-Chain c passed r = ap (λ x. x.1 r) (sense-Chain c passed) ∙ ap (λ l. ended passed l r) (stages_of_chain c)
+pub exec-Chain : (c : Chain) (passed : Option ℕ) (r : Context) → exec (t.Chain c passed) r ≡ exec_chain_stmt passed (map exec_stage c.stages) r
+exec-Chain c passed r = ap (λ x. x.1 r) (sense-Chain c passed) ∙ ap (λ l. exec_chain_stmt passed l r) (stages_of_chain c)
 
-pub stage-Message : (m : Send) → stage (g.Message m) ≡ message m
+pub stage-Message : (m : Send) → exec_stage (g.Message m) ≡ message m
 stage-Message m = ap (λ x. x.1) (sense-Message m)
 
-pub stage-Join : (at : ℕ) (body : List Stmt) (r : Reads) → stage (g.Join at body) r ≡ join (λ s. is_void_join body (scope_of r s)) (blocked (map exec body)) r
+pub stage-Join : (at : ℕ) (body : List Stmt) (r : Context) → exec_stage (g.Join at body) r ≡ exec_join_stage (λ s. is_void_join body (scope_of r s)) (sequence_in_scope (map exec body)) r
 stage-Join at body r =
     ap (λ x. x.1 r) (sense-Join at body)
-    ∙ ap (λ l. join (λ s. is_void_join l (scope_of r s)) (blocked (map doing (map sense body))) r) (parts body)
-    ∙ ap (λ l. join (λ s. is_void_join body (scope_of r s)) (blocked l) r) (doings body)
+    ∙ ap (λ l. exec_join_stage (λ s. is_void_join l (scope_of r s)) (sequence_in_scope (map denotation_of (map stmt_with_tree body))) r) (parts body)
+    ∙ ap (λ l. exec_join_stage (λ s. is_void_join body (scope_of r s)) (sequence_in_scope l) r) (doings body)
 
 pub ruleset executions = (exec-Empty, exec-Block, exec-Declare, exec-Assign, exec-IfNone, exec-IfSome, exec-While, exec-For, exec-Return, exec-Token, exec-Chain, stage-Message, stage-Join)

@@ -15,26 +15,26 @@ use Rattle.sal_ast.specs.declared.statement.Stage.TheViews.{roll-Stage, roll-Stm
 use Rattle.sal_ast.specs.declared.statement.Stage.TheOpen.{Stage-F, Stmt-F, Chain-F}
 use Rattle.sal_ast.specs.declared.statement.Stage.TheFolds.{map-Stage, map-Stmt, map-Chain, fold-roll-Stage, fold-roll-Stmt, fold-roll-Chain, ind-Stmt}
 use Rattle.sal_ast.proofs.Closing.{Known}
-use Rattle.sal_handler.specs.Fair.{EachOf}
-use Rattle.sal_handler.specs.Expressions.{Mean, Behind, Where, Part, expr_step, suffix_step, at_step, operand_step, eval, suffix, located, operand}
-use Rattle.sal_handler.specs.Statements.{StageSense, Sense, ChainSense, stage_step, stmt_step, chain_step, stage_sense, sense, chain_sense}
+use Rattle.sal_handler.specs.WellFormed.{EachOf}
+use Rattle.sal_handler.specs.Expressions.{Denotation, SuffixDenotation, LocationDenotation, OperandDenotation, expr_step, suffix_step, at_step, operand_step, eval, suffix, location, operand}
+use Rattle.sal_handler.specs.Statements.{StageWithTree, StmtWithTree, ChainWithTree, stage_step, stmt_step, chain_step, stage_with_tree, stmt_with_tree, chain_with_tree}
 
 abbrev pub IfAny : {X : Type 0} → (X → Type 0) → Option X → Type 0
 IfAny P None = Unit {0}
 IfAny P (Some x) = P x
 
-module _ (P : Mean → Type 0) where
-  abbrev pub OfBehind : Behind → Type 0
+module _ (P : Denotation → Type 0) where
+  abbrev pub OfBehind : SuffixDenotation → Type 0
   OfBehind = IfAny P
 
-  abbrev pub OfWhere : Where → Type 0
+  abbrev pub OfWhere : LocationDenotation → Type 0
   OfWhere w = P w.0 × IfAny P w.1
 
-  abbrev pub OfPart : Part → Type 0
+  abbrev pub OfPart : OperandDenotation → Type 0
   OfPart p = P p.1
 
   -- it holds of each part of a form
-  abbrev pub OfExpr : Expr-F Mean Behind Where Part → Type 0
+  abbrev pub OfExpr : Expr-F Denotation SuffixDenotation LocationDenotation OperandDenotation → Type 0
   OfExpr (Expr-F.Number n at) = Unit {0}
   OfExpr (Expr-F.Str text at) = Unit {0}
   OfExpr (Expr-F.Bool b at) = Unit {0}
@@ -52,7 +52,7 @@ module _ (P : Mean → Type 0) where
   OfExpr (Expr-F.ListOf at sort items) = EachOf P items
   OfExpr (Expr-F.ByName at cast behavior text) = P text
 
-  module _ (step : (x : Expr-F Mean Behind Where Part) → OfExpr x → P (expr_step x)) where
+  module _ (step : (x : Expr-F Denotation SuffixDenotation LocationDenotation OperandDenotation) → OfExpr x → P (expr_step x)) where
     abbrev PE : Expr → Type 0
     PE e = P (eval e)
 
@@ -60,7 +60,7 @@ module _ (P : Mean → Type 0) where
     PS x = OfBehind (suffix x)
 
     abbrev PA : At → Type 0
-    PA x = OfWhere (located x)
+    PA x = OfWhere (location x)
 
     abbrev PO : Operand → Type 0
     PO x = OfPart (operand x)
@@ -83,8 +83,8 @@ module _ (P : Mean → Type 0) where
     abbrev trees : LayerE → Expr-F Expr Suffix At Operand
     trees = map-Expr (Known Expr PE) (Known Suffix PS) (Known At PA) (Known Operand PO) Expr Suffix At Operand (λ z. z.0) (λ z. z.0) (λ z. z.0) (λ z. z.0)
 
-    abbrev means : Expr-F Expr Suffix At Operand → Expr-F Mean Behind Where Part
-    means = map-Expr Expr Suffix At Operand Mean Behind Where Part eval suffix located operand
+    abbrev means : Expr-F Expr Suffix At Operand → Expr-F Denotation SuffixDenotation LocationDenotation OperandDenotation
+    means = map-Expr Expr Suffix At Operand Denotation SuffixDenotation LocationDenotation OperandDenotation eval suffix location operand
 
     parts : (y : LayerE) → OfExpr (means (trees y))
     parts (Expr-F.Number n at) = tt
@@ -106,8 +106,8 @@ module _ (P : Mean → Type 0) where
     parts (Expr-F.ByName at cast behavior text) = text.1
 
     expr_layer : (y : LayerE) → PE (roll-Expr (trees y))
-    unfolding eval suffix located operand
-    expr_layer y = subst P (sym (fold-roll-Expr Mean Behind Where Part expr_step suffix_step at_step operand_step (trees y))) (step (means (trees y)) (parts y))
+    unfolding eval suffix location operand
+    expr_layer y = subst P (sym (fold-roll-Expr Denotation SuffixDenotation LocationDenotation OperandDenotation expr_step suffix_step at_step operand_step (trees y))) (step (means (trees y)) (parts y))
 
     abbrev LayerS : Type 0
     LayerS = Suffix-F (Known Expr PE) (Known Suffix PS) (Known At PA) (Known Operand PO)
@@ -115,13 +115,13 @@ module _ (P : Mean → Type 0) where
     abbrev suffix_trees : LayerS → Suffix-F Expr Suffix At Operand
     suffix_trees = map-Suffix (Known Expr PE) (Known Suffix PS) (Known At PA) (Known Operand PO) Expr Suffix At Operand (λ z. z.0) (λ z. z.0) (λ z. z.0) (λ z. z.0)
 
-    suffix_parts : (y : LayerS) → OfBehind (suffix_step (map-Suffix Expr Suffix At Operand Mean Behind Where Part eval suffix located operand (suffix_trees y)))
+    suffix_parts : (y : LayerS) → OfBehind (suffix_step (map-Suffix Expr Suffix At Operand Denotation SuffixDenotation LocationDenotation OperandDenotation eval suffix location operand (suffix_trees y)))
     suffix_parts (Suffix-F.Index at e) = e.1
     suffix_parts (Suffix-F.Length at) = tt
 
     suffix_layer : (y : LayerS) → PS (roll-Suffix (suffix_trees y))
-    unfolding eval suffix located operand
-    suffix_layer y = subst OfBehind (sym (fold-roll-Suffix Mean Behind Where Part expr_step suffix_step at_step operand_step (suffix_trees y))) (suffix_parts y)
+    unfolding eval suffix location operand
+    suffix_layer y = subst OfBehind (sym (fold-roll-Suffix Denotation SuffixDenotation LocationDenotation OperandDenotation expr_step suffix_step at_step operand_step (suffix_trees y))) (suffix_parts y)
 
     abbrev LayerA : Type 0
     LayerA = At-F (Known Expr PE) (Known Suffix PS) (Known At PA) (Known Operand PO)
@@ -129,13 +129,13 @@ module _ (P : Mean → Type 0) where
     abbrev at_trees : LayerA → At-F Expr Suffix At Operand
     at_trees = map-At (Known Expr PE) (Known Suffix PS) (Known At PA) (Known Operand PO) Expr Suffix At Operand (λ z. z.0) (λ z. z.0) (λ z. z.0) (λ z. z.0)
 
-    at_parts : (at : ℕ) (e : Known Expr PE) (o : Option (Known Expr PE)) → OfWhere (at_step (map-At Expr Suffix At Operand Mean Behind Where Part eval suffix located operand (at_trees (record { at = at; uan = e; ual = o }))))
+    at_parts : (at : ℕ) (e : Known Expr PE) (o : Option (Known Expr PE)) → OfWhere (at_step (map-At Expr Suffix At Operand Denotation SuffixDenotation LocationDenotation OperandDenotation eval suffix location operand (at_trees (record { at = at; uan = e; ual = o }))))
     at_parts at e None = (e.1, tt)
     at_parts at e (Some l) = (e.1, l.1)
 
     at_layer : (y : LayerA) → PA (roll-At (at_trees y))
-    unfolding eval suffix located operand
-    at_layer y = subst OfWhere (sym (fold-roll-At Mean Behind Where Part expr_step suffix_step at_step operand_step (at_trees y))) (at_parts y.at y.uan y.ual)
+    unfolding eval suffix location operand
+    at_layer y = subst OfWhere (sym (fold-roll-At Denotation SuffixDenotation LocationDenotation OperandDenotation expr_step suffix_step at_step operand_step (at_trees y))) (at_parts y.at y.uan y.ual)
 
     abbrev LayerO : Type 0
     LayerO = Operand-F (Known Expr PE) (Known Suffix PS) (Known At PA) (Known Operand PO)
@@ -144,18 +144,18 @@ module _ (P : Mean → Type 0) where
     operand_trees = map-Operand (Known Expr PE) (Known Suffix PS) (Known At PA) (Known Operand PO) Expr Suffix At Operand (λ z. z.0) (λ z. z.0) (λ z. z.0) (λ z. z.0)
 
     operand_layer : (y : LayerO) → PO (roll-Operand (operand_trees y))
-    unfolding eval suffix located operand
-    operand_layer y = subst OfPart (sym (fold-roll-Operand Mean Behind Where Part expr_step suffix_step at_step operand_step (operand_trees y))) y.value.1
+    unfolding eval suffix location operand
+    operand_layer y = subst OfPart (sym (fold-roll-Operand Denotation SuffixDenotation LocationDenotation OperandDenotation expr_step suffix_step at_step operand_step (operand_trees y))) y.value.1
 
     pub of_expr : (e : Expr) → P (eval e)
     of_expr = ind-Expr PE PS PA PO (λ x y is. subst (λ z. PE (roll-Expr z)) is (expr_layer y)) (λ x y is. subst (λ z. PS (roll-Suffix z)) is (suffix_layer y)) (λ x y is. subst (λ z. PA (roll-At z)) is (at_layer y)) (λ x y is. subst (λ z. PO (roll-Operand z)) is (operand_layer y))
 
-module _ (G : StageSense → Type 0) (T : Sense → Type 0) (C : ChainSense → Type 0) where
-  abbrev pub OfStage : Stage-F StageSense Sense ChainSense → Type 0
+module _ (G : StageWithTree → Type 0) (T : StmtWithTree → Type 0) (C : ChainWithTree → Type 0) where
+  abbrev pub OfStage : Stage-F StageWithTree StmtWithTree ChainWithTree → Type 0
   OfStage (Stage-F.Message m) = Unit {0}
   OfStage (Stage-F.Join at body) = EachOf T body
 
-  abbrev pub OfStmt : Stmt-F StageSense Sense ChainSense → Type 0
+  abbrev pub OfStmt : Stmt-F StageWithTree StmtWithTree ChainWithTree → Type 0
   OfStmt (Stmt-F.Empty at) = Unit {0}
   OfStmt (Stmt-F.Block at list) = EachOf T list
   OfStmt (Stmt-F.Declare d) = Unit {0}
@@ -167,21 +167,21 @@ module _ (G : StageSense → Type 0) (T : Sense → Type 0) (C : ChainSense → 
   OfStmt (Stmt-F.Token at name c) = C c
   OfStmt (Stmt-F.Chain c passed) = C c
 
-  module _ (stages : (x : Stage-F StageSense Sense ChainSense) → OfStage x → G (stage_step x)) (stmts : (x : Stmt-F StageSense Sense ChainSense) → OfStmt x → T (stmt_step x)) (chains : (x : Chain-F StageSense Sense ChainSense) → EachOf G x.stages → C (chain_step x)) where
+  module _ (stages : (x : Stage-F StageWithTree StmtWithTree ChainWithTree) → OfStage x → G (stage_step x)) (stmts : (x : Stmt-F StageWithTree StmtWithTree ChainWithTree) → OfStmt x → T (stmt_step x)) (chains : (x : Chain-F StageWithTree StmtWithTree ChainWithTree) → EachOf G x.stages → C (chain_step x)) where
     abbrev PG : Stage → Type 0
-    PG x = G (stage_sense x)
+    PG x = G (stage_with_tree x)
 
     abbrev PT : Stmt → Type 0
-    PT x = T (sense x)
+    PT x = T (stmt_with_tree x)
 
     abbrev PC : Chain → Type 0
-    PC x = C (chain_sense x)
+    PC x = C (chain_with_tree x)
 
-    each_stmt : (list : List (Known Stmt PT)) → EachOf T (map sense (map (λ z. z.0) list))
+    each_stmt : (list : List (Known Stmt PT)) → EachOf T (map stmt_with_tree (map (λ z. z.0) list))
     each_stmt [] = tt
     each_stmt (x ∷ xs) = (x.1, each_stmt xs)
 
-    each_stage : (list : List (Known Stage PG)) → EachOf G (map stage_sense (map (λ z. z.0) list))
+    each_stage : (list : List (Known Stage PG)) → EachOf G (map stage_with_tree (map (λ z. z.0) list))
     each_stage [] = tt
     each_stage (x ∷ xs) = (x.1, each_stage xs)
 
@@ -203,14 +203,14 @@ module _ (G : StageSense → Type 0) (T : Sense → Type 0) (C : ChainSense → 
     abbrev chain_trees : LayerC → Chain-F Stage Stmt Chain
     chain_trees = map-Chain (Known Stage PG) (Known Stmt PT) (Known Chain PC) Stage Stmt Chain (λ z. z.0) (λ z. z.0) (λ z. z.0)
 
-    abbrev stage_senses : Stage-F Stage Stmt Chain → Stage-F StageSense Sense ChainSense
-    stage_senses = map-Stage Stage Stmt Chain StageSense Sense ChainSense stage_sense sense chain_sense
+    abbrev stage_senses : Stage-F Stage Stmt Chain → Stage-F StageWithTree StmtWithTree ChainWithTree
+    stage_senses = map-Stage Stage Stmt Chain StageWithTree StmtWithTree ChainWithTree stage_with_tree stmt_with_tree chain_with_tree
 
-    abbrev stmt_senses : Stmt-F Stage Stmt Chain → Stmt-F StageSense Sense ChainSense
-    stmt_senses = map-Stmt Stage Stmt Chain StageSense Sense ChainSense stage_sense sense chain_sense
+    abbrev stmt_senses : Stmt-F Stage Stmt Chain → Stmt-F StageWithTree StmtWithTree ChainWithTree
+    stmt_senses = map-Stmt Stage Stmt Chain StageWithTree StmtWithTree ChainWithTree stage_with_tree stmt_with_tree chain_with_tree
 
-    abbrev chain_senses : Chain-F Stage Stmt Chain → Chain-F StageSense Sense ChainSense
-    chain_senses = map-Chain Stage Stmt Chain StageSense Sense ChainSense stage_sense sense chain_sense
+    abbrev chain_senses : Chain-F Stage Stmt Chain → Chain-F StageWithTree StmtWithTree ChainWithTree
+    chain_senses = map-Chain Stage Stmt Chain StageWithTree StmtWithTree ChainWithTree stage_with_tree stmt_with_tree chain_with_tree
 
     stage_parts : (y : LayerG) → OfStage (stage_senses (stage_trees y))
     stage_parts (Stage-F.Message m) = tt
@@ -230,16 +230,16 @@ module _ (G : StageSense → Type 0) (T : Sense → Type 0) (C : ChainSense → 
     stmt_parts (Stmt-F.Chain c passed) = c.1
 
     stage_layer : (y : LayerG) → PG (roll-Stage (stage_trees y))
-    unfolding stage_sense sense chain_sense
-    stage_layer y = subst G (sym (fold-roll-Stage StageSense Sense ChainSense stage_step stmt_step chain_step (stage_trees y))) (stages (stage_senses (stage_trees y)) (stage_parts y))
+    unfolding stage_with_tree stmt_with_tree chain_with_tree
+    stage_layer y = subst G (sym (fold-roll-Stage StageWithTree StmtWithTree ChainWithTree stage_step stmt_step chain_step (stage_trees y))) (stages (stage_senses (stage_trees y)) (stage_parts y))
 
     stmt_layer : (y : LayerT) → PT (roll-Stmt (stmt_trees y))
-    unfolding stage_sense sense chain_sense
-    stmt_layer y = subst T (sym (fold-roll-Stmt StageSense Sense ChainSense stage_step stmt_step chain_step (stmt_trees y))) (stmts (stmt_senses (stmt_trees y)) (stmt_parts y))
+    unfolding stage_with_tree stmt_with_tree chain_with_tree
+    stmt_layer y = subst T (sym (fold-roll-Stmt StageWithTree StmtWithTree ChainWithTree stage_step stmt_step chain_step (stmt_trees y))) (stmts (stmt_senses (stmt_trees y)) (stmt_parts y))
 
     chain_layer : (y : LayerC) → PC (roll-Chain (chain_trees y))
-    unfolding stage_sense sense chain_sense
-    chain_layer y = subst C (sym (fold-roll-Chain StageSense Sense ChainSense stage_step stmt_step chain_step (chain_trees y))) (chains (chain_senses (chain_trees y)) (each_stage y.stages))
+    unfolding stage_with_tree stmt_with_tree chain_with_tree
+    chain_layer y = subst C (sym (fold-roll-Chain StageWithTree StmtWithTree ChainWithTree stage_step stmt_step chain_step (chain_trees y))) (chains (chain_senses (chain_trees y)) (each_stage y.stages))
 
-    pub of_stmt : (x : Stmt) → T (sense x)
+    pub of_stmt : (x : Stmt) → T (stmt_with_tree x)
     of_stmt = ind-Stmt PG PT PC (λ x y is. subst (λ z. PG (roll-Stage z)) is (stage_layer y)) (λ x y is. subst (λ z. PT (roll-Stmt z)) is (stmt_layer y)) (λ x y is. subst (λ z. PC (roll-Chain z)) is (chain_layer y))

@@ -7,7 +7,7 @@ use Rattle.sal_value.specs.Spelling.{name_is_spelled}
 use Rattle.sal_ast.specs.declared.expression.Op.{Op}
 use Rattle.sal_ast.specs.declared.program.TypeName.{TypeName}
 use Rattle.sal_handler.specs.Values as w
-use Rattle.sal_handler.specs.Fair.{EachOf, Legal}
+use Rattle.sal_handler.specs.WellFormed.{EachOf, Legal}
 use Rattle.sal_handler.proofs.Legal as l
 
 module _ (Asked : Type 0) where
@@ -26,7 +26,7 @@ module _ (Asked : Type 0) where
   pub lawful_ref : (n : Name) → (Asked → name_is_spelled n ≡ true) → Lawful (v.Ref n)
   lawful_ref n e = λ q. l.legal_ref n (e q)
 
-  pub made_lawful : (x y : Value) → w.made x ≡ Ok y → Lawful y
+  pub made_lawful : (x y : Value) → w.within_limits x ≡ Ok y → Lawful y
   made_lawful x y e = λ q. l.made_legal x y e
 
   pub at_lawful : (items : List Value) (i : ℕ) → EachOf Lawful items → Lawful (w.item_at items i)
@@ -40,10 +40,10 @@ module _ (Asked : Type 0) where
   pub operate_lawful : (o : Op) (a b y : Value) → Lawful b → w.operate o a b ≡ Ok y → Lawful y
   operate_lawful o a b y h e = λ q. l.operate_legal o a b y (h q) e
 
-  pub assigned_lawful : (old : Value) (is : List ℤ) (new y : Value) → Lawful new → w.assigned old is new ≡ Ok y → Lawful y
+  pub assigned_lawful : (old : Value) (is : List ℤ) (new y : Value) → Lawful new → w.value_after_assign old is new ≡ Ok y → Lawful y
   assigned_lawful old is new y h e = λ q. l.assigned_legal old is new y (h q) e
 
-  pub array_lawful : (t : TypeName) (n : ℤ) (y : Value) → w.array_of t n ≡ Ok y → Lawful y
+  pub array_lawful : (t : TypeName) (n : ℤ) (y : Value) → w.new_array t n ≡ Ok y → Lawful y
   array_lawful t n y e = λ q. l.array_legal t n y e
 
   pub default_lawful : (t : TypeName) → Lawful (w.default_of t)

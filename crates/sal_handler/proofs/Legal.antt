@@ -22,9 +22,9 @@ use Rattle.sal_ast.specs.declared.expression.Op.TheVariants as op
 use Rattle.sal_ast.specs.declared.program.BaseName.{BaseName}
 use Rattle.sal_ast.specs.declared.program.BaseName.TheVariants as base
 use Rattle.sal_ast.specs.declared.program.TypeName.{TypeName}
-use Rattle.sal_handler.specs.Evaluation.{Checked, and_then}
+use Rattle.sal_handler.specs.Evaluation.{OrTrap, and_then}
 use Rattle.sal_handler.specs.Values as w
-use Rattle.sal_handler.specs.Fair.{EachOf, Legal}
+use Rattle.sal_handler.specs.WellFormed.{EachOf, Legal}
 
 both : (a b : Bool) → a ≡ true → b ≡ true → a && b ≡ true
 both true true p q = refl
@@ -78,14 +78,14 @@ pub legal_ref : (n : Name) → name_is_spelled n ≡ true → Legal (v.Ref n)
 legal_ref n e = legal_by (v.Ref n) (fits_ref n 64 ∙ e) (rw (spelling_ref n) (omega (arith, spelled_short n e)))
 
 -- what was tested
-pub made_legal : (x y : Value) → w.made x ≡ Ok y → Legal y
+pub made_legal : (x y : Value) → w.within_limits x ≡ Ok y → Legal y
 made_legal x y e = at (is_legal x) refl e
   where
     at : (b : Bool) → is_legal x ≡ b → (if b then Ok x else Err TooLarge) ≡ Ok y → Legal y
     at true l e = let same : x ≡ y = cc in subst Legal same l
     at false l e = absurd cc
 
-pub is_legal_ok : (x y : Value) → Legal x → ◌≡◌ {A = Checked Value} (Ok x) (Ok y) → Legal y
+pub is_legal_ok : (x y : Value) → Legal x → ◌≡◌ {A = OrTrap Value} (Ok x) (Ok y) → Legal y
 is_legal_ok x y e is = let same : x ≡ y = cc in subst Legal same e
 
 -- ---- items
@@ -153,21 +153,21 @@ at_legal (x ∷ xs) (suc i) p = at_legal xs i p.1
 
 pub item_legal : (x y : Value) (n : ℤ) → Legal x → w.item x n ≡ Ok y → Legal y
 unfolding w.item
-item_legal x y n e is = at (w.place_in n (length (w.items_of x))) is
+item_legal x y n e is = at (w.checked_index n (length (w.items_of x))) is
   where
-    at : (o : Checked ℕ) → and_then o (λ i. Ok (w.item_at (w.items_of x) i)) ≡ Ok y → Legal y
+    at : (o : OrTrap ℕ) → and_then o (λ i. Ok (w.item_at (w.items_of x) i)) ≡ Ok y → Legal y
     at (Ok i) is = let same : w.item_at (w.items_of x) i ≡ y = cc in subst Legal same (at_legal (w.items_of x) i (items_legal x e))
     at (Err k) is = absurd cc
 
-pub sum_legal : (a b y : Value) → w.sum a b ≡ Ok y → Legal y
-unfolding w.sum
-sum_legal a b y is = at (w.is_text a || w.is_text b) is
+pub sum_legal : (a b y : Value) → w.plus a b ≡ Ok y → Legal y
+unfolding w.plus
+sum_legal a b y is = at (w.is_text_value a || w.is_text_value b) is
   where
-    at : (t : Bool) → (if t then w.made (v.Str (w.shown a ++ w.shown b)) else Ok (v.Int (int_wrapping_add w32 (w.int_of a) (w.int_of b)))) ≡ Ok y → Legal y
-    at true is = made_legal (v.Str (w.shown a ++ w.shown b)) y is
+    at : (t : Bool) → (if t then w.within_limits (v.Str (w.value_text a ++ w.value_text b)) else Ok (v.Int (int_wrapping_add w32 (w.int_of a) (w.int_of b)))) ≡ Ok y → Legal y
+    at true is = made_legal (v.Str (w.value_text a ++ w.value_text b)) y is
     at false is = is_legal_ok (v.Int (int_wrapping_add w32 (w.int_of a) (w.int_of b))) y (legal_int _) is
 
-divided_legal : (by : ℤ → ℤ → ℤ) (a b : ℤ) (y : Value) → w.divided by a b ≡ Ok y → Legal y
+divided_legal : (by : ℤ → ℤ → ℤ) (a b : ℤ) (y : Value) → w.quotient_by by a b ≡ Ok y → Legal y
 divided_legal by a (pos zero) y is = absurd cc
 divided_legal by a (pos (suc n)) y is = is_legal_ok (v.Int (by a (pos (suc n)))) y (legal_int _) is
 divided_legal by a (negsuc n) y is = is_legal_ok (v.Int (by a (negsuc n))) y (legal_int _) is
@@ -190,20 +190,20 @@ operate_legal op.Rem a b y e is = divided_legal rem_z (w.int_of a) (w.int_of b) 
 
 -- ---- arrays and defaults
 
-pub assigned_legal : (old : Value) (is : List ℤ) (new y : Value) → Legal new → w.assigned old is new ≡ Ok y → Legal y
-unfolding w.assigned
+pub assigned_legal : (old : Value) (is : List ℤ) (new y : Value) → Legal new → w.value_after_assign old is new ≡ Ok y → Legal y
+unfolding w.value_after_assign
 assigned_legal old [] new y e is = is_legal_ok new y e is
-assigned_legal old (i ∷ rest) new y e is = at (w.put old (i ∷ rest) new) is
+assigned_legal old (i ∷ rest) new y e is = at (w.put_item old (i ∷ rest) new) is
   where
-    at : (o : Checked Value) → and_then o w.made ≡ Ok y → Legal y
+    at : (o : OrTrap Value) → and_then o w.within_limits ≡ Ok y → Legal y
     at (Ok x) is = made_legal x y is
     at (Err k) is = absurd cc
 
-pub array_legal : (t : TypeName) (n : ℤ) (y : Value) → w.array_of t n ≡ Ok y → Legal y
+pub array_legal : (t : TypeName) (n : ℤ) (y : Value) → w.new_array t n ≡ Ok y → Legal y
 array_legal t (negsuc n) y is = absurd cc
 array_legal t (pos n) y is = at (nat_lt 4096 n) is
   where
-    at : (b : Bool) → (if b then Err TooLarge else w.made (v.Array (replicate n (w.default_item t)))) ≡ Ok y → Legal y
+    at : (b : Bool) → (if b then Err TooLarge else w.within_limits (v.Array (replicate n (w.default_item t)))) ≡ Ok y → Legal y
     at true is = absurd cc
     at false is = made_legal (v.Array (replicate n (w.default_item t))) y is
 

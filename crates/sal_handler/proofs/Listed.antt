@@ -11,7 +11,7 @@ use Rattle.sal_ast.specs.declared.statement.Stage.TheViews as V
 use Rattle.sal_ast.specs.declared.statement.Stage.TheOpen.{Stage-F, Stmt-F}
 use Rattle.sal_ast.specs.declared.statement.Stage.TheVariants as g
 use Rattle.sal_ast.specs.declared.statement.Stmt.TheVariants as t
-use Rattle.sal_handler.specs.Listing.{stages_at, stages_in_body, stages_in, string_at, argument_in, output_handler, listed, message_at, message_in, owed_before, owed_left, messages_in}
+use Rattle.sal_handler.specs.code.Listing.{stages_at, stages_in_body, stages_in, string_at, argument_in, output_handler, output_message, message_at, message_in, owed_before, owed_left, messages_in}
 use Rattle.sal_handler.specs.Prints.{Print, Outline, argument_of, stage_of, body_of, program_of, argument_known, print_message, reply_before, chained, print_effects, AreShort, IsChainOfPrints}
 use Rattle.std.specs.Prelude.{◌≢◌, ◌&&◌, nat_eq, nat_lt, slice_get}
 use Rattle.sal_value.specs.declared.name.Ual.{Ual}
@@ -19,13 +19,13 @@ use Rattle.sal_value.specs.Names.{ual_of}
 use Rattle.sal_value.specs.declared.value.Value.{Value}
 use Rattle.sal_value.specs.declared.value.Base.TheVariants as base
 use Rattle.sal_ast.specs.Sorts.{type_sort}
-use Rattle.sal_handler.specs.Fits.{are_of, fits_behavior, is_migrate, fits_call}
+use Rattle.sal_handler.specs.Fits.{fit_sorts, fits_behavior, is_migrate, fits_call}
 use Rattle.std.proofs.lemmas.Bool.{le-ltb, ltb-false, eq-eqb, ne_eqb}
 use Rattle.sal_ast.specs.declared.program.Program.{Program}
 use Rattle.sal_ast.specs.Members.{handlers_of}
 use Rattle.sal_handler.specs.declared.turn.Outcome.TheVariants as outcome
 use Rattle.sal_handler.specs.Calls.{Call}
-use Rattle.sal_handler.specs.Handler.{unchanged, first_text, moved, ran_in, outcome_of, handle}
+use Rattle.sal_handler.specs.Handler.{no_effects, first_text, migrate_if_locator, run_in_behavior, outcome_of, handle}
 use Rattle.sal_handler.proofs.Sending.{sends}
 
 owed_is : (me : Name) (number : ℕ) (xs : List Stage) (left : ℕ) → left ≡ length xs → owed_before me number xs ≡ owed_left me number left
@@ -63,7 +63,7 @@ message_is : (me : Name) (before : Option ℕ) (number : ℕ) (p : Print) (owes 
 unfolding message_in
 message_is me before number p owes =
     ap (λ x. message_at me before number x owes) (ap V.out-Stage (sym (g.rolls-Message _)) ∙ V.out-roll-Stage (Stage-F.Message _))
-    ∙ ap (λ args. listed me before number (output_handler p.handler.text) args owes) (argument_is p.text)
+    ∙ ap (λ args. output_message me before number (output_handler p.handler.text) args owes) (argument_is p.text)
 
 pub messages_are : (me : Name) (before : Option ℕ) (number : ℕ) (ps : List Print) → messages_in me before number (map stage_of ps) ≡ chained me before number ps
 messages_are me before number [] = nil_is me before number
@@ -85,43 +85,43 @@ stages_few p f = subst (λ n. n ≤ 1024) (sym (ap (λ q. length (stages_in q)) 
 
 -- what the listed messages leave is what `act` does
 pub acted_is : (p : Program) → IsChainOfPrints p → (c : Call) → c.behavior ≡ 0 → c.handler ≡ 0 → c.serial ≤ 18446744073709547520 →
-    outcome.Done (record (unchanged c) { messages = messages_in c.me None c.serial (stages_in p); serial = c.serial + length (stages_in p); fresh = c.fresh }) ≡ handle p c
+    outcome.Done (record (no_effects c) { messages = messages_in c.me None c.serial (stages_in p); serial = c.serial + length (stages_in p); fresh = c.fresh }) ≡ handle p c
 acted_is p f c b d low =
-    ap (λ q. outcome.Done (record (unchanged c) { messages = messages_in c.me None c.serial (stages_in q); serial = c.serial + length (stages_in q); fresh = c.fresh })) f.is_tree
-    ∙ ap (λ l. outcome.Done (record (unchanged c) { messages = messages_in c.me None c.serial l; serial = c.serial + length l; fresh = c.fresh })) (stages_are f.outline)
-    ∙ ap (λ ms. outcome.Done (record (unchanged c) { messages = ms; serial = c.serial + length (map stage_of f.outline.prints); fresh = c.fresh })) (messages_are c.me None c.serial f.outline.prints)
+    ap (λ q. outcome.Done (record (no_effects c) { messages = messages_in c.me None c.serial (stages_in q); serial = c.serial + length (stages_in q); fresh = c.fresh })) f.is_tree
+    ∙ ap (λ l. outcome.Done (record (no_effects c) { messages = messages_in c.me None c.serial l; serial = c.serial + length l; fresh = c.fresh })) (stages_are f.outline)
+    ∙ ap (λ ms. outcome.Done (record (no_effects c) { messages = ms; serial = c.serial + length (map stage_of f.outline.prints); fresh = c.fresh })) (messages_are c.me None c.serial f.outline.prints)
     ∙ ap (λ n. outcome.Done (record (print_effects c f.outline.prints) { serial = c.serial + n })) (length-map f.outline.prints stage_of)
     ∙ sym (sends f.outline c b d low f.few f.short)
     ∙ ap (λ q. handle q c) (sym f.is_tree)
 
-none_there : (o : Outline) (c : Call) (n h : ℕ) → c.handler ≡ h → (n ≡ 0 → h ≡ 0 → ⊥) → ran_in (slice_get (program_of o).behaviors n) (program_of o) c ≡ Ok (unchanged c)
+none_there : (o : Outline) (c : Call) (n h : ℕ) → c.handler ≡ h → (n ≡ 0 → h ≡ 0 → ⊥) → run_in_behavior (slice_get (program_of o).behaviors n) (program_of o) c ≡ Ok (no_effects c)
 unfolding handlers_of
 none_there o c zero zero e no_act = absurd (no_act refl refl)
 none_there o c zero (suc h) e no_act = rw e refl
 none_there o c (suc n) h e no_act = refl
 
-nothing_at : (o : Outline) (c : Call) → c.serial ≤ 18446744073709547520 → c.handler ≢ 65535 → (c.behavior ≡ 0 → c.handler ≡ 0 → ⊥) → outcome.Done (unchanged c) ≡ handle (program_of o) c
+nothing_at : (o : Outline) (c : Call) → c.serial ≤ 18446744073709547520 → c.handler ≢ 65535 → (c.behavior ≡ 0 → c.handler ≡ 0 → ⊥) → outcome.Done (no_effects c) ≡ handle (program_of o) c
 unfolding handle
 nothing_at o c low other no_act = sym (rw (le-ltb 18446744073709547520 c.serial low, ne_eqb c.handler 65535 other) (ap outcome_of (none_there o c c.behavior c.handler refl no_act)))
 
 -- another handler changes nothing
-pub other_is : (p : Program) → IsChainOfPrints p → (c : Call) → c.serial ≤ 18446744073709547520 → c.handler ≢ 65535 → (c.behavior ≡ 0 → c.handler ≡ 0 → ⊥) → outcome.Done (unchanged c) ≡ handle p c
+pub other_is : (p : Program) → IsChainOfPrints p → (c : Call) → c.serial ≤ 18446744073709547520 → c.handler ≢ 65535 → (c.behavior ≡ 0 → c.handler ≡ 0 → ⊥) → outcome.Done (no_effects c) ≡ handle p c
 other_is p f c low other no_act = nothing_at f.outline c low other no_act ∙ ap (λ q. handle q c) (sym f.is_tree)
 
 -- ---- calls that fit
 
-fits_other : (o : Outline) (b h : ℕ) (args : List Value) → fits_behavior (slice_get (program_of o).behaviors b) (program_of o).behaviors h args ≡ (nat_eq b 0 && nat_eq h 0) && are_of (Some (record { base = base.Str; dims = 1 }) ∷ []) args
+fits_other : (o : Outline) (b h : ℕ) (args : List Value) → fits_behavior (slice_get (program_of o).behaviors b) (program_of o).behaviors h args ≡ (nat_eq b 0 && nat_eq h 0) && fit_sorts (Some (record { base = base.Str; dims = 1 }) ∷ []) args
 unfolding handlers_of type_sort
 fits_other o zero zero args = refl
 fits_other o zero (suc h) args = rw (ne_eqb (suc h) 0 (λ e. absurd (omega (arith, e)))) refl
 fits_other o (suc b) h args = rw (ne_eqb (suc b) 0 (λ e. absurd (omega (arith, e)))) refl
 
 -- `act` with words
-pub fits_act : (p : Program) → IsChainOfPrints p → (b h : ℕ) (args : List Value) → is_migrate b h ≡ false → fits_call p b h args ≡ (nat_eq b 0 && nat_eq h 0) && are_of (Some (record { base = base.Str; dims = 1 }) ∷ []) args
+pub fits_act : (p : Program) → IsChainOfPrints p → (b h : ℕ) (args : List Value) → is_migrate b h ≡ false → fits_call p b h args ≡ (nat_eq b 0 && nat_eq h 0) && fit_sorts (Some (record { base = base.Str; dims = 1 }) ∷ []) args
 unfolding fits_call
 fits_act p f b h args e = ap (λ q. fits_call q b h args) f.is_tree ∙ rw e (fits_other f.outline b h args)
 
-pub fits_migrate : (p : Program) (b h : ℕ) (args : List Value) → is_migrate b h ≡ true → fits_call p b h args ≡ are_of (Some (record { base = base.Str; dims = 0 }) ∷ []) args
+pub fits_migrate : (p : Program) (b h : ℕ) (args : List Value) → is_migrate b h ≡ true → fits_call p b h args ≡ fit_sorts (Some (record { base = base.Str; dims = 0 }) ∷ []) args
 unfolding fits_call
 fits_migrate p b h args e = rw e refl
 
@@ -131,7 +131,7 @@ module _ (o : Outline) (few : length o.prints ≤ 1024) (short : AreShort o.prin
   abbrev renamed : Call
   renamed = record c { names = names }
 
-  moved_free : (l : Option Ual) → moved l renamed ≡ moved l c
+  moved_free : (l : Option Ual) → migrate_if_locator l renamed ≡ migrate_if_locator l c
   moved_free None = refl
   moved_free (Some l) = refl
 

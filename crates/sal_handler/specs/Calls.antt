@@ -27,18 +27,18 @@ pub record Call : Type 0 where
 -- What a program means: what each call does, how it begins, and which calls and states fit it.
 pub record Meaning : Type 0 where
   pub outcome : Call → Outcome
-  pub begun : Began
+  pub begin : Began
   pub fits_call : ℕ → ℕ → List Value → Bool
   pub fits_state : ℕ → List Value → Bool
 
 -- so many names of a place, from this number on
-unfoldable pub numbered : ℕ → ℕ → ℕ → List Name
-numbered place n zero = []
-numbered place n (suc k) = Anon place n ∷ numbered place (n + 1) k
+unfoldable pub names_from : ℕ → ℕ → ℕ → List Name
+names_from place n zero = []
+names_from place n (suc k) = Anon place n ∷ names_from place (n + 1) k
 
 -- one for each actor that a handler can make
 unfoldable pub fresh_names : ℕ → ℕ → List Name
-fresh_names place n = numbered place n MOST_MADE
+fresh_names place n = names_from place n MOST_MADE
 
 -- the call that a turn of the code stands for: new actors take the names of its place from its fresh number on
 abbrev pub call : Turn → Call

@@ -3,11 +3,11 @@
 ghost use Rattle.std.specs.Prelude.{◌≡◌, ◌≢◌, ◌+◌, ◌≤◌, None, Some, [], ◌∷◌, ◌&&◌, nat_eq, is_some, length, IfOk};
 ghost use Rattle.sal_value.specs.Names.{ual_of};
 ghost use Rattle.sal_handler.specs.Calls.{call};
-ghost use Rattle.sal_handler.specs.Listing as spec;
-ghost use Rattle.sal_handler.specs.Handler.{handle, begin, first_text, migrated, unchanged, outcome_of};
+ghost use Rattle.sal_handler.specs.code.Listing as spec;
+ghost use Rattle.sal_handler.specs.Handler.{handle, begin, first_text, run_migrate, no_effects, outcome_of};
 ghost use Rattle.sal_handler.specs.Values.{text_of};
 ghost use Rattle.sal_value.specs.declared.value.Base.TheVariants.{Str};
-ghost use Rattle.sal_handler.specs.Fits.{is_of, are_of, is_migrate, fits_call};
+ghost use Rattle.sal_handler.specs.Fits.{fits_sort, fit_sorts, is_migrate, fits_call};
 ghost use Rattle.sal_handler.specs.Prints.{IsChainOfPrints, waits_for};
 
 use crate::constants::LAST_SERIAL;
@@ -90,7 +90,7 @@ fn owed(alloc: Global, me: &Name, number: u64, left: usize) -> Result<Reply, NoM
     Ok(Reply::Tok(me.clone_in(alloc)?, number))
 }
 
-#[tactic(auto, unfolding(crate::specs::Listing::message_in))]
+#[tactic(auto, unfolding(crate::specs::code::Listing::message_in))]
 fn message(
     alloc: Global,
     me: &Name,
@@ -152,7 +152,7 @@ fn effects(
     messages: List<Message>,
     serial: u64,
 ) -> Result<Effects, NoMemory>
-    ensures { IfOk result (λ e. e ≡ record (unchanged (call turn.now)) { messages = messages; serial = serial; fresh = turn.now.fresh }) }
+    ensures { IfOk result (λ e. e ≡ record (no_effects (call turn.now)) { messages = messages; serial = serial; fresh = turn.now.fresh }) }
 {
     Ok(Effects {
         fields: turn.fields.clone_in(alloc)?,
@@ -201,7 +201,7 @@ fn is_locator(alloc: Global, text: &[u8]) -> Result<bool, NoMemory>
 }
 
 fn migrated(alloc: Global, turn: &Turn<'_>) -> Result<Outcome, NoMemory>
-    ensures { IfOk result (λ it. it ≡ outcome_of (migrated (call turn.now))) }
+    ensures { IfOk result (λ it. it ≡ outcome_of (run_migrate (call turn.now))) }
 {
     if !is_locator(alloc, first_text(turn.args.as_slice()))? {
         return Ok(Outcome::Trap(Trap::BadLocator));
@@ -264,13 +264,13 @@ pub fn begin_prints(alloc: Global, program: &Program) -> Began
 }
 
 fn is_legal_of(value: &Value, base: Base, dims: u8) -> bool
-    ensures { result ≡ is_of (Some (record { base = base; dims = dims })) value.now }
+    ensures { result ≡ fits_sort (Some (record { base = base; dims = dims })) value.now }
 {
     value.legal() && value.belongs(Sort { base, dims })
 }
 
 fn is_one_of(args: &[Value], dims: u8) -> bool
-    ensures { result ≡ are_of (Some (record { base = Str; dims = dims }) ∷ []) args.now }
+    ensures { result ≡ fit_sorts (Some (record { base = Str; dims = dims }) ∷ []) args.now }
 {
     match args {
         [value] => is_legal_of(value, Base::Str, dims),

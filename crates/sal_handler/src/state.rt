@@ -3,7 +3,7 @@ use sal_value::{List, NoMemory, Sort, Text, Value, Values};
 
 /// What a local holds: a value, or the number of the message or join whose reply is the token.
 #[derive(Drop)]
-pub enum Held {
+pub enum Content {
     Value(Value),
     Token(u64),
 }
@@ -13,7 +13,7 @@ pub enum Held {
 pub struct Local {
     pub name: Text,
     pub sort: Option<Sort>,
-    pub held: Held,
+    pub held: Content,
 }
 
 /// What a handler changes while it runs.
@@ -48,7 +48,7 @@ pub enum End {
 
 /// An open join, and the number of the stage directly before it.
 #[derive(Clone, Copy, Debug, PartialEq, Eq)]
-pub struct Inside {
+pub struct EnclosingJoin {
     pub join: u64,
     pub before: Option<u64>,
 }

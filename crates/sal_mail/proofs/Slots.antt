@@ -6,27 +6,27 @@ use Rattle.std.specs.Option.{option_to_list}
 use Rattle.std.specs.Prelude.{slice_get, slice_set, filter_map}
 use Rattle.sal_value.specs.declared.value.Value.{Value}
 use Rattle.sal_mail.specs.declared.message.Piece.{Piece}
-use Rattle.sal_mail.specs.Message.{known_value, known_values, present, fill, is_open}
+use Rattle.sal_mail.specs.Message.{known_value, known_values, slot_values, fill_slot, is_empty_slot}
 
-pub present_push : (ps : List (Option Value)) (p : Option Value) → present (ps ++ p ∷ []) ≡ present ps ++ option_to_list p
+pub present_push : (ps : List (Option Value)) (p : Option Value) → slot_values (ps ++ p ∷ []) ≡ slot_values ps ++ option_to_list p
 present_push [] None = refl
 present_push [] (Some v) = refl
 present_push (None ∷ ps) p = present_push ps p
 present_push (Some v ∷ ps) p = ap (λ l. v ∷ l) (present_push ps p)
 
-pub fill_set : (at : ℕ) (v : Value) (ps : List (Option Value)) → is_open (slice_get ps at) ≡ true → slice_set ps at (Some v) ≡ fill at v ps
+pub fill_set : (at : ℕ) (v : Value) (ps : List (Option Value)) → is_empty_slot (slice_get ps at) ≡ true → slice_set ps at (Some v) ≡ fill_slot at v ps
 fill_set at v [] e = absurd (true≢false (sym e))
 fill_set zero v (None ∷ ps) e = refl
 fill_set zero v (Some x ∷ ps) e = absurd (true≢false (sym e))
 fill_set (suc at) v (p ∷ ps) e = ap (λ l. p ∷ l) (fill_set at v ps e)
 
-pub fill_same : (at : ℕ) (v : Value) (ps : List (Option Value)) → is_open (slice_get ps at) ≡ false → ps ≡ fill at v ps
+pub fill_same : (at : ℕ) (v : Value) (ps : List (Option Value)) → is_empty_slot (slice_get ps at) ≡ false → ps ≡ fill_slot at v ps
 fill_same at v [] e = refl
 fill_same zero v (None ∷ ps) e = absurd (true≢false e)
 fill_same zero v (Some x ∷ ps) e = refl
 fill_same (suc at) v (p ∷ ps) e = ap (λ l. p ∷ l) (fill_same at v ps e)
 
-pub open_within : (at : ℕ) (ps : List (Option Value)) → is_open (slice_get ps at) ≡ true → at < length ps
+pub open_within : (at : ℕ) (ps : List (Option Value)) → is_empty_slot (slice_get ps at) ≡ true → at < length ps
 open_within at [] e = absurd (true≢false (sym e))
 open_within zero (p ∷ ps) e = omega arith
 open_within (suc at) (p ∷ ps) e = let r : at < length ps = open_within at ps e in omega arith

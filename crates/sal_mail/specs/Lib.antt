@@ -1,4 +1,4 @@
-pub mod Address
+pub mod ReplyKeys
 pub mod Key
 pub mod Message
 pub mod Sums

@@ -6,7 +6,7 @@ use Rattle.std.specs.FinMap as fm
 use Rattle.std.proofs.lemmas.Bool.Decides.{nat_tests}
 use Rattle.sal_value.specs.declared.name.Uan.{Uan}
 use Rattle.sal_value.specs.Order.{uan_key}
-use Rattle.sal_value.specs.Table.{words_cmp, words_eq, write}
+use Rattle.sal_value.specs.Table.{key_cmp, key_eq, write}
 use Rattle.sal_value.proofs.Tables.{get-write, same_words}
 use Rattle.sal_move.specs.declared.places.Known.{Known}
 use Rattle.sal_move.specs.Places.{Places, place_of, is_newer, is_news, learned}
@@ -60,28 +60,28 @@ one_more ps (Some m) k h = better ps m k (nat_lt m.moves k.moves) refl h
 module _ (u : Uan) where
   -- what is known of the name after a place of a name was learned
   place_after : (x : Uan × Known) (t : Places) → place_of u (learned x.0 x.1.theatre x.1.moves t)
-      ≡ (if is_newer x.1.moves (place_of x.0 t) then cond (words_eq (uan_key u) (uan_key x.0)) (Some x.1) (place_of u t) else place_of u t)
+      ≡ (if is_newer x.1.moves (place_of x.0 t) then cond (key_eq (uan_key u) (uan_key x.0)) (Some x.1) (place_of u t) else place_of u t)
   unfolding learned is_news
   place_after x t = at (is_newer x.1.moves (place_of x.0 t))
     where
-      at : (b : Bool) → place_of u (if b then write t (uan_key x.0) (Some x.1) else t) ≡ (if b then cond (words_eq (uan_key u) (uan_key x.0)) (Some x.1) (place_of u t) else place_of u t)
+      at : (b : Bool) → place_of u (if b then write t (uan_key x.0) (Some x.1) else t) ≡ (if b then cond (key_eq (uan_key u) (uan_key x.0)) (Some x.1) (place_of u t) else place_of u t)
       at true = get-write t (uan_key x.0) (Some x.1) (uan_key u)
       at false = refl
 
   module _ (x : Uan × Known) (xs : List (Uan × Known)) where
-    listed : (b : Bool) → words_eq (uan_key u) (uan_key x.0) ≡ b → filter_map (place_for u) (x ∷ xs) ≡ (if b then x.1 ∷ filter_map (place_for u) xs else filter_map (place_for u) xs)
+    listed : (b : Bool) → key_eq (uan_key u) (uan_key x.0) ≡ b → filter_map (place_for u) (x ∷ xs) ≡ (if b then x.1 ∷ filter_map (place_for u) xs else filter_map (place_for u) xs)
     listed true e = rw e refl
     listed false e = rw e refl
 
     -- the name's own place
-    known_same : (t : Places) → words_eq (uan_key u) (uan_key x.0) ≡ true → place_of u (learned x.0 x.1.theatre x.1.moves t) ≡ (if is_newer x.1.moves (place_of u t) then Some x.1 else place_of u t)
+    known_same : (t : Places) → key_eq (uan_key u) (uan_key x.0) ≡ true → place_of u (learned x.0 x.1.theatre x.1.moves t) ≡ (if is_newer x.1.moves (place_of u t) then Some x.1 else place_of u t)
     known_same t e =
         place_after x t
         ∙ ap (λ c. if is_newer x.1.moves (place_of x.0 t) then cond c (Some x.1) (place_of u t) else place_of u t) e
         ∙ ap (λ k. if is_newer x.1.moves (fm.get t k) then Some x.1 else place_of u t) (sym (same_words (uan_key u) (uan_key x.0) e))
 
     -- a place of another name
-    known_other : (t : Places) → words_eq (uan_key u) (uan_key x.0) ≡ false → place_of u (learned x.0 x.1.theatre x.1.moves t) ≡ place_of u t
+    known_other : (t : Places) → key_eq (uan_key u) (uan_key x.0) ≡ false → place_of u (learned x.0 x.1.theatre x.1.moves t) ≡ place_of u t
     known_other t e =
         place_after x t
         ∙ ap (λ c. if is_newer x.1.moves (place_of x.0 t) then cond c (Some x.1) (place_of u t) else place_of u t) e
@@ -93,12 +93,12 @@ module _ (u : Uan) where
 
   kept : (xs : List (Uan × Known)) (ps : List Known) (t : Places) → IsBest ps (place_of u t) → IsBest (ps ++ filter_map (place_for u) xs) (place_of u (learned_all xs t))
   kept [] ps t h = subst (λ l. IsBest l (place_of u t)) (sym (append-nil ps)) h
-  kept (x ∷ xs) ps t h = at (words_eq (uan_key u) (uan_key x.0)) refl (λ qs g. kept xs qs new g)
+  kept (x ∷ xs) ps t h = at (key_eq (uan_key u) (uan_key x.0)) refl (λ qs g. kept xs qs new g)
     where
       new : Places
       new = learned x.0 x.1.theatre x.1.moves t
 
-      at : (b : Bool) → words_eq (uan_key u) (uan_key x.0) ≡ b
+      at : (b : Bool) → key_eq (uan_key u) (uan_key x.0) ≡ b
           → ((qs : List Known) → IsBest qs (place_of u new) → IsBest (qs ++ filter_map (place_for u) xs) (place_of u (learned_all xs new)))
           → IsBest (ps ++ filter_map (place_for u) (x ∷ xs)) (place_of u (learned_all xs new))
       at true e rest =
@@ -109,4 +109,4 @@ module _ (u : Uan) where
           (rest ps (subst (IsBest ps) (sym (known_other x xs t e)) h))
 
 pub first_places_kept : FirstPlacesWithMostMovesAreKept
-first_places_kept xs u = kept u xs [] fm.empty (subst (IsBest []) (sym (fm.get-empty words_cmp (uan_key u))) refl)
+first_places_kept xs u = kept u xs [] fm.empty (subst (IsBest []) (sym (fm.get-empty key_cmp (uan_key u))) refl)

@@ -4,7 +4,7 @@ use Rattle.std.specs.List.{AllByRecursion}
 use Rattle.std.specs.FinMap as fm
 use Rattle.sal_value.specs.declared.name.Uan.{Uan}
 use Rattle.sal_value.specs.Order.{uan_key}
-use Rattle.sal_value.specs.Table.{words_eq}
+use Rattle.sal_value.specs.Table.{key_eq}
 use Rattle.sal_move.specs.declared.places.Known.{Known}
 use Rattle.sal_move.specs.Places.{Places, place_of, learned}
 
@@ -15,7 +15,7 @@ learned_all (x ∷ xs) t = learned_all xs (learned x.0 x.1.theatre x.1.moves t)
 
 -- the place, where it is one of this name
 abbrev pub place_for : Uan → Uan × Known → Option Known
-place_for u x = if words_eq (uan_key u) (uan_key x.0) then Some x.1 else None
+place_for u x = if key_eq (uan_key u) (uan_key x.0) then Some x.1 else None
 
 -- Of these places it is the first with the most moves: those before it have fewer, and those after it no more.
 pub record IsFirstWithMost (places : List Known) (k : Known) : Type 0 where

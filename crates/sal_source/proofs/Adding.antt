@@ -5,7 +5,7 @@ use Rattle.sal_value.specs.declared.name.Name.{Name}
 use Rattle.sal_mail.specs.declared.effects.Actor.{Actor}
 use Rattle.sal_source.specs.Table.{Table, write}
 use Rattle.sal_source.specs.Keys.{name_key}
-use Rattle.sal_source.specs.Mapped.{actor_of, put_back}
+use Rattle.sal_source.specs.code.Maps.{actor_of, put_back}
 use Rattle.sal_source.specs.Step.{put_actors}
 use Rattle.sal_source.specs.declared.actor_map.ActorState.{ActorState}
 

@@ -22,13 +22,13 @@ use Rattle.sal_handler.specs.declared.turn.Outcome.TheVariants as outcome
 use Rattle.sal_handler.specs.declared.turn.Began.TheVariants as began
 use Rattle.sal_source.specs.declared.state.Setup.{Setup}
 use Rattle.sal_source.specs.declared.state.Step.TheVariants as step
-use Rattle.sal_source.specs.Table.{Words, words_eq, Table, table_of, keys_of}
+use Rattle.sal_source.specs.Table.{TableKey, key_eq, Table, table_of, keys_of}
 use Rattle.sal_source.specs.Keys.{name_key, made_key, message_key, creation_key}
-use Rattle.sal_source.specs.Listed.{found, AreDistinct, AnyOf}
+use Rattle.sal_source.specs.code.Lists.{first_at_key, AreDistinct, AnyOf}
 use Rattle.sal_source.specs.Configuration.{Configuration}
 use Rattle.sal_source.specs.Give.{give}
 use Rattle.sal_source.specs.Step as s
-use Rattle.sal_source.specs.Possible.{has_taker, is_possible, is_decided}
+use Rattle.sal_source.specs.code.Possible.{has_receiver, is_possible, is_decided}
 use Rattle.sal_source.proofs.Tables.{words_refl, words_apart, get-table_of}
 use Rattle.sal_source.proofs.Given.{contains_keys}
 use Rattle.sal_source.proofs.Played.{ready}
@@ -44,28 +44,28 @@ or_second : (a b : Bool) → (a || b) ≡ false → b ≡ false
 or_second true b e = absurd (true≢false e)
 or_second false b e = e
 
-module _ {X : Type 0} (key : X → Words) (t : X → Bool) where
-  found_at : (q : Words) (x : X) (xs : List X) (b : Bool) → t x ≡ false → IfSome (found key q xs) (λ m. t m ≡ false) → IfSome (cond b (Some x) (found key q xs)) (λ m. t m ≡ false)
+module _ {X : Type 0} (key : X → TableKey) (t : X → Bool) where
+  found_at : (q : TableKey) (x : X) (xs : List X) (b : Bool) → t x ≡ false → IfSome (first_at_key key q xs) (λ m. t m ≡ false) → IfSome (cond b (Some x) (first_at_key key q xs)) (λ m. t m ≡ false)
   found_at q x xs true e more = e
   found_at q x xs false e more = more
 
-  found_false : (q : Words) (xs : List X) → list_any t xs ≡ false → IfSome (found key q xs) (λ m. t m ≡ false)
+  found_false : (q : TableKey) (xs : List X) → list_any t xs ≡ false → IfSome (first_at_key key q xs) (λ m. t m ≡ false)
   found_false q [] e = tt
-  found_false q (x ∷ xs) e = found_at q x xs (words_eq q (key x)) (or_first (t x) (list_any t xs) e) (found_false q xs (or_second (t x) (list_any t xs) e))
+  found_false q (x ∷ xs) e = found_at q x xs (key_eq q (key x)) (or_first (t x) (list_any t xs) e) (found_false q xs (or_second (t x) (list_any t xs) e))
 
   record Passes (xs : List X) : Type 0 where
     m : X
-    there : found key (key m) xs ≡ Some m
+    there : first_at_key key (key m) xs ≡ Some m
     passes : t m ≡ true
 
   passes_at : (x : X) (xs : List X) (b : Bool) → t x ≡ b → AreDistinct key (x ∷ xs) → (list_any t xs ≡ true → Passes xs) → (b || list_any t xs) ≡ true → Passes (x ∷ xs)
-  passes_at x xs true e d more h = record { m = x; there = ap (λ b. cond b (Some x) (found key (key x) xs)) (words_refl (key x)); passes = e }
+  passes_at x xs true e d more h = record { m = x; there = ap (λ b. cond b (Some x) (first_at_key key (key x) xs)) (words_refl (key x)); passes = e }
   passes_at x xs false e d more h =
       let p : Passes xs = more h in
-      record { m = p.m; there = ap (λ b. cond b (Some x) (found key (key p.m) xs)) (words_apart (key p.m) (key x) (λ same. differ p same)) ∙ p.there; passes = p.passes }
+      record { m = p.m; there = ap (λ b. cond b (Some x) (first_at_key key (key p.m) xs)) (words_apart (key p.m) (key x) (λ same. differ p same)) ∙ p.there; passes = p.passes }
     where
       differ : (p : Passes xs) → key p.m ≡ key x → ⊥
-      differ p same = absurd (let f : None ≡ Some p.m = sym d.0 ∙ ap (λ k. found key k xs) (sym same) ∙ p.there in cc)
+      differ p same = absurd (let f : None ≡ Some p.m = sym d.0 ∙ ap (λ k. first_at_key key k xs) (sym same) ∙ p.there in cc)
 
   found_true : (xs : List X) → AreDistinct key xs → list_any t xs ≡ true → Passes xs
   found_true [] d h = absurd (true≢false (sym h))
@@ -80,7 +80,7 @@ module _ {X : Type 0} (key : X → Words) (t : X → Bool) where
 -- ---- no step is possible
 
 module _ (c : Configuration) where
-  no_taker : (outcomes : Call → Outcome) (maker : Name) (serial : ℕ) (fresh : List Name) (m : Message) (to : Target) → m.target ≡ to → has_taker c.actors to ≡ false → s.handle_message outcomes maker serial fresh m c ≡ None
+  no_taker : (outcomes : Call → Outcome) (maker : Name) (serial : ℕ) (fresh : List Name) (m : Message) (to : Target) → m.target ≡ to → has_receiver c.actors to ≡ false → s.handle_message outcomes maker serial fresh m c ≡ None
   no_taker outcomes maker serial fresh m target.Output e f = absurd (true≢false f)
   no_taker outcomes maker serial fresh m (target.Actor n) e f = rw (e, none (fm.get c.actors (name_key n)) f) refl
     where
@@ -88,23 +88,23 @@ module _ (c : Configuration) where
       none None f = refl
       none (Some a) f = absurd (true≢false f)
 
-  no_output : (maker : Name) (serial : ℕ) (m : Message) (to : Target) → m.target ≡ to → has_taker c.actors to ≡ false → s.print_message maker serial m c ≡ None
+  no_output : (maker : Name) (serial : ℕ) (m : Message) (to : Target) → m.target ≡ to → has_receiver c.actors to ≡ false → s.print_message maker serial m c ≡ None
   no_output maker serial m target.Output e f = absurd (true≢false f)
   no_output maker serial m (target.Actor n) e f = rw e refl
 
-  none_handled : (outcomes : Call → Outcome) (maker : Name) (serial : ℕ) (fresh : List Name) (o : Option Message) → IfSome o (λ m. is_possible c.actors m ≡ false) → s.ready_only o (λ m. s.handle_message outcomes maker serial fresh m c) ≡ None
+  none_handled : (outcomes : Call → Outcome) (maker : Name) (serial : ℕ) (fresh : List Name) (o : Option Message) → IfSome o (λ m. is_possible c.actors m ≡ false) → s.if_ready o (λ m. s.handle_message outcomes maker serial fresh m c) ≡ None
   none_handled outcomes maker serial fresh None h = refl
   none_handled outcomes maker serial fresh (Some m) h = at (is_ready m) refl h
     where
-      at : (b : Bool) → is_ready m ≡ b → (b && has_taker c.actors m.target) ≡ false → s.ready_only (Some m) (λ m. s.handle_message outcomes maker serial fresh m c) ≡ None
+      at : (b : Bool) → is_ready m ≡ b → (b && has_receiver c.actors m.target) ≡ false → s.if_ready (Some m) (λ m. s.handle_message outcomes maker serial fresh m c) ≡ None
       at true r e = rw r (no_taker outcomes maker serial fresh m m.target refl e)
       at false r e = rw r refl
 
-  none_printed : (maker : Name) (serial : ℕ) (o : Option Message) → IfSome o (λ m. is_possible c.actors m ≡ false) → s.ready_only o (λ m. s.print_message maker serial m c) ≡ None
+  none_printed : (maker : Name) (serial : ℕ) (o : Option Message) → IfSome o (λ m. is_possible c.actors m ≡ false) → s.if_ready o (λ m. s.print_message maker serial m c) ≡ None
   none_printed maker serial None h = refl
   none_printed maker serial (Some m) h = at (is_ready m) refl h
     where
-      at : (b : Bool) → is_ready m ≡ b → (b && has_taker c.actors m.target) ≡ false → s.ready_only (Some m) (λ m. s.print_message maker serial m c) ≡ None
+      at : (b : Bool) → is_ready m ≡ b → (b && has_receiver c.actors m.target) ≡ false → s.if_ready (Some m) (λ m. s.print_message maker serial m c) ≡ None
       at true r e = rw r (no_output maker serial m m.target refl e)
       at false r e = rw r refl
 
@@ -115,7 +115,7 @@ module _ (c : Configuration) where
     none_bound : (authorities : List Authority) (maker : Name) (serial : ℕ) (o : Option (Name × Creation)) → IfSome o (λ x. is_decided authorities c.actors x ≡ false) → s.bind authorities maker serial o c ≡ None
     none_bound authorities maker serial None h = refl
     none_bound authorities maker serial (Some x) h =
-        ap (λ b. if b && not (s.is_given x.1 c) then Some (s.bound x.1 (s.drop_creation maker serial c)) else None) (or_second (fm.contains_key c.actors (name_key (name.Uan x.1.name))) _ h)
+        ap (λ b. if b && not (s.is_given x.1 c) then Some (s.bind_creation x.1 (s.drop_creation maker serial c)) else None) (or_second (fm.contains_key c.actors (name_key (name.Uan x.1.name))) _ h)
 
     none_refused : (authorities : List Authority) (maker : Name) (serial : ℕ) (o : Option (Name × Creation)) → IfSome o (λ x. is_decided authorities c.actors x ≡ false) → s.refuse maker serial o c ≡ None
     none_refused authorities maker serial None h = refl
@@ -148,22 +148,22 @@ module _ (c : Configuration) where
 
   -- a program whose handlers trap
   abbrev trapping : Meaning
-  trapping = record { outcome = λ call. outcome.Trap ZeroDivisor; begun = began.Trap ZeroDivisor; fits_call = λ behavior handler args. false; fits_state = λ behavior fields. false }
+  trapping = record { outcome = λ call. outcome.Trap ZeroDivisor; begin = began.Trap ZeroDivisor; fits_call = λ behavior handler args. false; fits_state = λ behavior fields. false }
 
   some_none : {A : Type 0} (o : Option A) (a : A) → o ≡ Some a → o ≡ None → ⊥
   some_none o a e f = absurd (let g : Some a ≡ None = sym e ∙ f in cc)
 
-  handled_none : (maker : Name) (serial : ℕ) (m : Message) (a : Actor × ℕ) → s.handled trapping.outcome maker serial [] m a (s.drop_message maker serial c) ≡ None → ⊥
+  handled_none : (maker : Name) (serial : ℕ) (m : Message) (a : Actor × ℕ) → s.handle_by_actor trapping.outcome maker serial [] m a (s.drop_message maker serial c) ≡ None → ⊥
   handled_none maker serial m a e = at (s.understands a.0 m) e
     where
-      at : (b : Bool) → (if b then s.after_outcome (outcome.Trap ZeroDivisor) maker serial [] m a.0 (s.drop_message maker serial c) else s.unhandled maker serial [] c) ≡ None → ⊥
+      at : (b : Bool) → (if b then s.after_outcome (outcome.Trap ZeroDivisor) maker serial [] m a.0 (s.drop_message maker serial c) else s.fault_no_handler maker serial [] c) ≡ None → ⊥
       at true e = absurd (cc)
       at false e = absurd (cc)
 
-  takes_on : (authorities : List Authority) (m : Message) (to : Target) → m.target ≡ to → fm.get c.waiting.messages (message_key m) ≡ Some m → is_ready m ≡ true → has_taker c.actors to ≡ true → s.IsAtEnd authorities c → ⊥
+  takes_on : (authorities : List Authority) (m : Message) (to : Target) → m.target ≡ to → fm.get c.waiting.messages (message_key m) ≡ Some m → is_ready m ≡ true → has_receiver c.actors to ≡ true → s.IsAtEnd authorities c → ⊥
   unfolding s.step
   takes_on authorities m target.Output e got r h end =
-      some_none _ (give m.reply Null (s.add_output (s.printed m) (s.drop_message m.maker m.serial c)))
+      some_none _ (give m.reply Null (s.add_output (s.message_text m) (s.drop_message m.maker m.serial c)))
       (ready (fm.get c.waiting.messages (message_key m)) m (λ m'. s.print_message m.maker m.serial m' c) got r ∙ rw e refl) (end trapping (silent authorities) refl (step.Print m.maker m.serial) refl)
   takes_on authorities m (target.Actor n) e got r h end = there (fm.get c.actors (name_key n)) refl h
     where

@@ -14,30 +14,30 @@ use Rattle.sal_mail.specs.declared.message.Join.{Join}
 use Rattle.sal_mail.specs.declared.effects.Actor.{Actor}
 use Rattle.sal_mail.specs.declared.effects.Effects.{Effects}
 use Rattle.sal_mail.specs.Message.{is_full}
-use Rattle.sal_handler.specs.Fair.{EachOf, is_number, taken, IsWithin, IsNew, IsOwedWell, IsGoodMessage, AreNamed, IsOld, IsOrderly}
-use Rattle.sal_handler.specs.Fair as f
+use Rattle.sal_handler.specs.WellFormed.{EachOf, one_if_same, times_taken, IsWithin, IsNewReply, IsAllowedReply, IsGoodMessage, HaveFreshNames, IsOldReply, IsOrderly}
+use Rattle.sal_handler.specs.WellFormed as f
 use Rattle.sal_handler.proofs.Addresses.{each_more}
-use Rattle.sal_source.specs.Table.{Words, keys_of}
+use Rattle.sal_source.specs.Table.{TableKey, keys_of}
 use Rattle.sal_source.specs.Keys.{name_key, made_key, message_key}
 use Rattle.sal_source.specs.Configuration.{Configuration}
-use Rattle.sal_source.specs.Step.{put_actors, give_names, is_new, is_anonymous, are_different, fits_fresh, call_of, installed}
-use Rattle.sal_source.specs.Once.{number_of, next_number}
+use Rattle.sal_source.specs.Step.{put_actors, give_names, is_new, is_anonymous, are_different, fits_fresh, call_of, with_effects}
+use Rattle.sal_source.specs.Once.{next_serial_of, next_serial}
 use Rattle.sal_source.proofs.Tables.{words_tells}
 use Rattle.sal_source.proofs.Given.{contains_keys, keys_put, keys_again, has_put}
 use Rattle.sal_source.proofs.Once.{Each, each_written, each_put, each_opened}
 use Rattle.sal_source.proofs.Keeping.{Actors, IsActor, next_actor, same_made, IsOwedOld, Fits, WasThere, IsKeyed, KeptIn, Grows, GoesTo, goes_same, owed_more, waits_more, split, flipped, number_here, number_there, put_grows, put_keyed, IsFreshFor, named, anonymous_actor, one_at_least, each_both, within}
 
 -- the handled message's reply is old, if what it names was taken
-pub old_reply : (actors : Actors) (posted : ℕ) (a : Actor × ℕ) → fm.get actors (name_key a.0.name) ≡ Some a → IsActor a.0.name → (r : Reply) → IsOwedOld actors posted r → IsOld a.0.name a.1 r
+pub old_reply : (actors : Actors) (posted : ℕ) (a : Actor × ℕ) → fm.get actors (name_key a.0.name) ≡ Some a → IsActor a.0.name → (r : Reply) → IsOwedOld actors posted r → IsOldReply a.0.name a.1 r
 old_reply actors posted a at actor r h = by r h
   where
-    next : (owner : Name) → owner ≡ a.0.name → next_number actors posted owner ≡ a.1
-    next owner same = ap (next_number actors posted) same ∙ next_actor actors posted a.0.name actor ∙ ap number_of at
+    next : (maker : Name) → maker ≡ a.0.name → next_serial actors posted maker ≡ a.1
+    next maker same = ap (next_serial actors posted) same ∙ next_actor actors posted a.0.name actor ∙ ap next_serial_of at
 
-    by : (r : Reply) → IsOwedOld actors posted r → IsOld a.0.name a.1 r
+    by : (r : Reply) → IsOwedOld actors posted r → IsOldReply a.0.name a.1 r
     by Nobody h = tt
-    by (Tok owner n) h = λ same. omega (arith, h, next owner same)
-    by (Place owner join i) h = λ same. omega (arith, h, next owner same)
+    by (Tok maker n) h = λ same. omega (arith, h, next maker same)
+    by (Place maker join i) h = λ same. omega (arith, h, next maker same)
     by (Outside n) h = tt
 
 module _ (c : Configuration) (kept : KeptIn c) (m : Message) (a : Actor × ℕ) (fresh : List Name) (e : Effects) (sizes : List ℕ) (at : fm.get c.actors (name_key a.0.name) ≡ Some a) (actor : IsActor a.0.name) (owed : IsOwedOld c.actors c.posted m.reply)
@@ -49,7 +49,7 @@ module _ (c : Configuration) (kept : KeptIn c) (m : Message) (a : Actor × ℕ) 
   left = (record a.0 { fields = e.fields }, e.serial)
 
   abbrev after : Configuration
-  after = installed e a.0 c
+  after = with_effects e a.0 c
 
   -- ---- actors
 
@@ -67,11 +67,11 @@ module _ (c : Configuration) (kept : KeptIn c) (m : Message) (a : Actor × ℕ) 
           let p = split (is_anonymous n) (not (fs.contains c.given (name_key n))) h in
           (sym (contains_keys c.actors (name_key n)) ∙ ap (λ g. fs.contains g (name_key n)) (sym kept.named) ∙ flipped (fs.contains c.given (name_key n)) p.1, anonymous_actor n p.0)
 
-  grew : (q : Words) → number_of (fm.get c.actors q) ≤ number_of (fm.get after.actors q)
+  grew : (q : TableKey) → next_serial_of (fm.get c.actors q) ≤ next_serial_of (fm.get after.actors q)
   grew q =
       elim (words_tells q (name_key me)) [
         | inl s ↦
-            let old : number_of (fm.get c.actors q) ≡ a.1 = ap (λ z. number_of (fm.get c.actors z)) s.1 ∙ ap number_of at in
+            let old : next_serial_of (fm.get c.actors q) ≡ a.1 = ap (λ z. next_serial_of (fm.get c.actors z)) s.1 ∙ ap next_serial_of at in
             let new = number_here (put_actors e.actors c.actors) (name_key me) q left s.1 in
             omega (arith, old, new, order.rises)
         | inr s ↦ omega (arith, put_grows e.actors c.actors q new_actors, number_there (put_actors e.actors c.actors) (name_key me) q left s.0)
@@ -90,57 +90,57 @@ module _ (c : Configuration) (kept : KeptIn c) (m : Message) (a : Actor × ℕ) 
 
   -- ---- what it made
 
-  pub before_me : next_number c.actors c.posted me ≡ a.1
-  before_me = next_actor c.actors c.posted me actor ∙ ap number_of at
+  pub before_me : next_serial c.actors c.posted me ≡ a.1
+  before_me = next_actor c.actors c.posted me actor ∙ ap next_serial_of at
 
-  pub after_me : next_number after.actors after.posted me ≡ e.serial
+  pub after_me : next_serial after.actors after.posted me ≡ e.serial
   after_me = next_actor after.actors after.posted me actor ∙ number_here (put_actors e.actors c.actors) (name_key me) (name_key me) left refl
 
-  of_owner : (owner : Name) → owner ≡ me → next_number after.actors after.posted owner ≡ e.serial
-  of_owner owner same = ap (next_number after.actors after.posted) same ∙ after_me
+  of_owner : (maker : Name) → maker ≡ me → next_serial after.actors after.posted maker ≡ e.serial
+  of_owner maker same = ap (next_serial after.actors after.posted) same ∙ after_me
 
-  owed_new : (r : Reply) → IsNew me a.1 e.serial r → IsOwedOld after.actors after.posted r
+  owed_new : (r : Reply) → IsNewReply me a.1 e.serial r → IsOwedOld after.actors after.posted r
   owed_new Nobody h = absurd h
-  owed_new (Tok owner n) h = omega (arith, h.1.1, of_owner owner h.0)
-  owed_new (Place owner join i) h = omega (arith, h.1.1, of_owner owner h.0)
+  owed_new (Tok maker n) h = omega (arith, h.1.1, of_owner maker h.0)
+  owed_new (Place maker join i) h = omega (arith, h.1.1, of_owner maker h.0)
   owed_new (Outside n) h = absurd h
 
-  owed_well : (r : Reply) → IsOwedWell me m.reply a.1 e.serial r → IsOwedOld after.actors after.posted r
+  owed_well : (r : Reply) → IsAllowedReply me m.reply a.1 e.serial r → IsOwedOld after.actors after.posted r
   owed_well r (inl same) = subst (IsOwedOld after.actors after.posted) (sym same) tt
   owed_well r (inr (inl same)) = subst (IsOwedOld after.actors after.posted) (sym same) (owed_more c.actors after.actors c.posted after.posted grows m.reply owed)
   owed_well r (inr (inr h)) = owed_new r h
 
-  fits_new : (maker : Name) (k : ℕ) (r : Reply) → maker ≡ me → IsWithin a.1 e.serial k → IsOwedWell me m.reply a.1 e.serial r → Fits after.actors after.posted (made_key maker k) r
+  fits_new : (maker : Name) (k : ℕ) (r : Reply) → maker ≡ me → IsWithin a.1 e.serial k → IsAllowedReply me m.reply a.1 e.serial r → Fits after.actors after.posted (made_key maker k) r
   fits_new maker k r mine w o = record {
     owed = owed_well r o;
     number = λ n s same. let p = same_made maker n k s same in omega (arith, w.1, p.1, of_owner n (sym p.0 ∙ mine));
   }
 
-  there_new : (before : Words → Bool) (maker : Name) (k : ℕ) (r : Reply) → maker ≡ me → IsWithin a.1 e.serial k → WasThere c.actors c.posted before (made_key maker k) r
+  there_new : (before : TableKey → Bool) (maker : Name) (k : ℕ) (r : Reply) → maker ≡ me → IsWithin a.1 e.serial k → WasThere c.actors c.posted before (made_key maker k) r
   there_new before maker k r mine w = record {
     there = λ n s same l.
         let p = same_made maker n k s same in
-        let next : next_number c.actors c.posted n ≡ a.1 = ap (next_number c.actors c.posted) (sym p.0 ∙ mine) ∙ before_me in
+        let next : next_serial c.actors c.posted n ≡ a.1 = ap (next_serial c.actors c.posted) (sym p.0 ∙ mine) ∙ before_me in
         absurd (omega (arith, l, next, p.1, w.0));
   }
 
   messages_within : EachOf (λ x. IsWithin a.1 e.serial x.serial) e.messages
-  messages_within = each_more (λ x. 1 ≤ f.total (λ y. is_number x.serial y.serial) e.messages) (λ x. IsWithin a.1 e.serial x.serial) e.messages (λ x l. within sizes (call_of m a fresh) e order x.serial (omega (arith, l))) (one_at_least (λ x. x.serial) [] e.messages)
+  messages_within = each_more (λ x. 1 ≤ f.total (λ y. one_if_same x.serial y.serial) e.messages) (λ x. IsWithin a.1 e.serial x.serial) e.messages (λ x l. within sizes (call_of m a fresh) e order x.serial (omega (arith, l))) (one_at_least (λ x. x.serial) [] e.messages)
 
   joins_within : EachOf (λ j. IsWithin a.1 e.serial j.number) e.joins
-  joins_within = each_more (λ j. 1 ≤ f.total (λ y. is_number j.number y.number) e.joins) (λ j. IsWithin a.1 e.serial j.number) e.joins (λ j l. within sizes (call_of m a fresh) e order j.number (omega (arith, l))) (one_at_least (λ j. j.number) [] e.joins)
+  joins_within = each_more (λ j. 1 ≤ f.total (λ y. one_if_same j.number y.number) e.joins) (λ j. IsWithin a.1 e.serial j.number) e.joins (λ j l. within sizes (call_of m a fresh) e order j.number (omega (arith, l))) (one_at_least (λ j. j.number) [] e.joins)
 
   abbrev GoodOne : Message → Type 0
   GoodOne x = IsGoodMessage me m.reply a.1 e.serial sizes x × IsWithin a.1 e.serial x.serial
 
   abbrev GoodJoin : Join → Type 0
-  GoodJoin j = IsOwedWell me m.reply a.1 e.serial j.reply × IsWithin a.1 e.serial j.number
+  GoodJoin j = IsAllowedReply me m.reply a.1 e.serial j.reply × IsWithin a.1 e.serial j.number
 
   good_messages : EachOf GoodOne e.messages
   good_messages = each_both (IsGoodMessage me m.reply a.1 e.serial sizes) (λ x. IsWithin a.1 e.serial x.serial) e.messages order.messages messages_within
 
   good_joins : EachOf GoodJoin e.joins
-  good_joins = each_both (λ j. IsOwedWell me m.reply a.1 e.serial j.reply) (λ j. IsWithin a.1 e.serial j.number) e.joins order.joins joins_within
+  good_joins = each_both (λ j. IsAllowedReply me m.reply a.1 e.serial j.reply) (λ j. IsWithin a.1 e.serial j.number) e.joins order.joins joins_within
 
   pub kept_installed : KeptIn after
   kept_installed =
@@ -154,10 +154,10 @@ module _ (c : Configuration) (kept : KeptIn c) (m : Message) (a : Actor × ℕ) 
         };
       }
 
-  abbrev WasMessage : Words → Reply → Type 0
+  abbrev WasMessage : TableKey → Reply → Type 0
   WasMessage = WasThere c.actors c.posted (fm.contains_key c.waiting.messages)
 
-  abbrev WasJoin : Words → Reply → Type 0
+  abbrev WasJoin : TableKey → Reply → Type 0
   WasJoin = WasThere c.actors c.posted (fm.contains_key c.waiting.joins)
 
   pub goes_installed : GoesTo c after

@@ -9,40 +9,40 @@ use Rattle.std.specs.Map.{keys_of, lookup, lookup_key, remove_entry}
 use Rattle.std.specs.BTreeMap.{insert_entry, is_at}
 use Rattle.std.specs.FinMap as fm
 use Rattle.std.specs.FinMap.Entries as es
-use Rattle.sal_source.specs.Table.{Words, words_cmp, words_eq, Table, table_of, write}
-use Rattle.sal_source.specs.Listed.{found, IsSorted, AreDistinct}
+use Rattle.sal_source.specs.Table.{TableKey, key_cmp, key_eq, Table, table_of, write}
+use Rattle.sal_source.specs.code.Lists.{first_at_key, IsSorted, AreDistinct}
 use Rattle.sal_source.proofs.Tables.{some_is, same_words, words_refl, same_table, get-write, get-table_of}
 use Rattle.sal_source.proofs.Sorted.{both, lt, apart_more}
 
 module _ {X : Type 0} where
   -- what was at the key before is written again
-  pub written_back : (k : Words) (x : Option X) (t u : Table X) → u ≡ write t k x → write u k (fm.get t k) ≡ t
-  written_back k x t u new = ap (λ v. write v k (fm.get t k)) new ∙ same_table _ _ (λ q. get-write (write t k x) k (fm.get t k) q ∙ ap (cond (words_eq q k) (fm.get t k)) (get-write t k x q) ∙ at q (words_eq q k) refl)
+  pub written_back : (k : TableKey) (x : Option X) (t u : Table X) → u ≡ write t k x → write u k (fm.get t k) ≡ t
+  written_back k x t u new = ap (λ v. write v k (fm.get t k)) new ∙ same_table _ _ (λ q. get-write (write t k x) k (fm.get t k) q ∙ ap (cond (key_eq q k) (fm.get t k)) (get-write t k x q) ∙ at q (key_eq q k) refl)
     where
-      at : (q : Words) (b : Bool) → words_eq q k ≡ b → cond b (fm.get t k) (cond b x (fm.get t q)) ≡ fm.get t q
+      at : (q : TableKey) (b : Bool) → key_eq q k ≡ b → cond b (fm.get t k) (cond b x (fm.get t q)) ≡ fm.get t q
       at q true e = ap (fm.get t) (sym (same_words q k e))
       at q false e = refl
 
-  pub written_there : (k : Words) (x : X) (t u : Table X) → u ≡ write t k (Some x) → fm.contains_key u k ≡ true
+  pub written_there : (k : TableKey) (x : X) (t u : Table X) → u ≡ write t k (Some x) → fm.contains_key u k ≡ true
   written_there k x t u new = ap (λ v. fm.contains_key v k) new ∙ ap is_some (get-write t k (Some x) k) ∙ ap (λ b. is_some (cond b (Some x) (fm.get t k))) (words_refl k)
 
 -- Entries (k, v) that stand for the items `item (k, v)`, by keys of which those of the items are made.
-module _ {K V X : Type 0} (words : K → Words) (key : X → Words) (item : K × V → X) (keyed : (e : K × V) → key (item e) ≡ words e.0) where
+module _ {K V X : Type 0} (words : K → TableKey) (key : X → TableKey) (item : K × V → X) (keyed : (e : K × V) → key (item e) ≡ words e.0) where
   abbrev order : K → K → Ordering
-  order a b = words_cmp (words a) (words b)
+  order a b = key_cmp (words a) (words b)
 
   abbrev in_table : List (K × V) → Table X
   in_table more = table_of key (map item more)
 
-  abbrev at_key : Words → List (K × V) → Option X
-  at_key q more = found key q (map item more)
+  abbrev at_key : TableKey → List (K × V) → Option X
+  at_key q more = first_at_key key q (map item more)
 
   -- ---- what is found
 
-  at_first : (q : Words) (e : K × V) (more : List (K × V)) → at_key q (e ∷ more) ≡ cond (words_eq q (words e.0)) (Some (item e)) (at_key q more)
-  at_first q e more = ap (λ k. cond (words_eq q k) (Some (item e)) (at_key q more)) (keyed e)
+  at_first : (q : TableKey) (e : K × V) (more : List (K × V)) → at_key q (e ∷ more) ≡ cond (key_eq q (words e.0)) (Some (item e)) (at_key q more)
+  at_first q e more = ap (λ k. cond (key_eq q k) (Some (item e)) (at_key q more)) (keyed e)
 
-  get_in : (more : List (K × V)) (q : Words) → fm.get (in_table more) q ≡ at_key q more
+  get_in : (more : List (K × V)) (q : TableKey) → fm.get (in_table more) q ≡ at_key q more
   get_in more q = get-table_of key (map item more) q
 
   module _ {A : Type 0} (name : A → K) (state : A → V) where
@@ -57,7 +57,7 @@ module _ {K V X : Type 0} (words : K → Words) (key : X → Words) (item : K ×
     entry_is : (n : K) (r : Option A) (more : List (K × V)) → option_map name r ≡ lookup_key (is_at (order n)) more → option_map state r ≡ lookup (is_at (order n)) more → option_map (λ a. item (name a, state a)) r ≡ at_key (words n) more
     entry_is n None [] k v = refl
     entry_is n (Some a) [] k v = absurd (let f : Some (name a) ≡ None = k in cc)
-    entry_is n r (e ∷ more) k v = entry_at n r e more (words_eq (words n) (words e.0)) (entry_is n r more) k v ∙ sym (at_first (words n) e more)
+    entry_is n r (e ∷ more) k v = entry_at n r e more (key_eq (words n) (words e.0)) (entry_is n r more) k v ∙ sym (at_first (words n) e more)
 
     -- the entry at the key stands for the item at its words
     pub got : (n : K) (r : Option A) (more : List (K × V)) → option_map name r ≡ lookup_key (is_at (order n)) more → option_map state r ≡ lookup (is_at (order n)) more → option_map (λ a. item (name a, state a)) r ≡ fm.get (in_table more) (words n)
@@ -69,7 +69,7 @@ module _ {K V X : Type 0} (words : K → Words) (key : X → Words) (item : K ×
     same_key n (Some a) h = same_words (words n) (words (name a)) (ap is_eq h)
 
   module _ (tell : (a b : K) → words a ≡ words b → a ≡ b) where
-    held_at : (n : K) (e : K × V) (more : List (K × V)) (b : Bool) → words_eq (words n) (words e.0) ≡ b →
+    held_at : (n : K) (e : K × V) (more : List (K × V)) (b : Bool) → key_eq (words n) (words e.0) ≡ b →
         option_map (λ v. item (n, v)) (lookup (is_at (order n)) more) ≡ at_key (words n) more →
         option_map (λ v. item (n, v)) (cond b (Some e.1) (lookup (is_at (order n)) more)) ≡ cond b (Some (item e)) (at_key (words n) more)
     held_at n e more true is rest = ap (λ m. Some (item (m, e.1))) (tell n e.0 (same_words (words n) (words e.0) is))
@@ -77,7 +77,7 @@ module _ {K V X : Type 0} (words : K → Words) (key : X → Words) (item : K ×
 
     held : (n : K) (more : List (K × V)) → option_map (λ v. item (n, v)) (lookup (is_at (order n)) more) ≡ at_key (words n) more
     held n [] = refl
-    held n (e ∷ more) = held_at n e more (words_eq (words n) (words e.0)) refl (held n more) ∙ sym (at_first (words n) e more)
+    held n (e ∷ more) = held_at n e more (key_eq (words n) (words e.0)) refl (held n more) ∙ sym (at_first (words n) e more)
 
     -- the value that is found at the key
     pub value_is : (n : K) (more : List (K × V)) (o : Option V) → o ≡ lookup (is_at (order n)) more → fm.get (in_table more) (words n) ≡ option_map (λ v. item (n, v)) o
@@ -85,15 +85,15 @@ module _ {K V X : Type 0} (words : K → Words) (key : X → Words) (item : K ×
 
     -- ---- an entry is put
 
-    insert_at : (q : Words) (n : K) (v : V) (e : K × V) (more : List (K × V)) (o : Ordering) → words_cmp (words n) (words e.0) ≡ o →
-        at_key q (insert_entry order more n v) ≡ cond (words_eq q (words n)) (Some (item (n, v))) (at_key q more) →
-        at_key q (match_ordering o ((n, v) ∷ e ∷ more) ((e.0, v) ∷ more) (e ∷ insert_entry order more n v)) ≡ cond (words_eq q (words n)) (Some (item (n, v))) (at_key q (e ∷ more))
+    insert_at : (q : TableKey) (n : K) (v : V) (e : K × V) (more : List (K × V)) (o : Ordering) → key_cmp (words n) (words e.0) ≡ o →
+        at_key q (insert_entry order more n v) ≡ cond (key_eq q (words n)) (Some (item (n, v))) (at_key q more) →
+        at_key q (match_ordering o ((n, v) ∷ e ∷ more) ((e.0, v) ∷ more) (e ∷ insert_entry order more n v)) ≡ cond (key_eq q (words n)) (Some (item (n, v))) (at_key q (e ∷ more))
     insert_at q n v e more Less is rest = at_first q (n, v) (e ∷ more)
     insert_at q n v e more Equal is rest =
         ap (λ m. at_key q ((m, v) ∷ more)) (sym (tell n e.0 (same_words (words n) (words e.0) (ap is_eq is))))
         ∙ at_first q (n, v) more
-        ∙ over (words_eq q (words n)) (words_eq q (words e.0)) (Some (item (n, v))) (Some (item e)) (at_key q more) (ap (words_eq q) (same_words (words n) (words e.0) (ap is_eq is)))
-        ∙ ap (cond (words_eq q (words n)) (Some (item (n, v)))) (sym (at_first q e more))
+        ∙ over (key_eq q (words n)) (key_eq q (words e.0)) (Some (item (n, v))) (Some (item e)) (at_key q more) (ap (key_eq q) (same_words (words n) (words e.0) (ap is_eq is)))
+        ∙ ap (cond (key_eq q (words n)) (Some (item (n, v)))) (sym (at_first q e more))
       where
         over : {A : Type 0} (a b : Bool) (u w x : A) → a ≡ b → cond a u x ≡ cond a u (cond b w x)
         over true b u w x e = refl
@@ -101,66 +101,66 @@ module _ {K V X : Type 0} (words : K → Words) (key : X → Words) (item : K ×
         over false false u w x e = refl
     insert_at q n v e more Greater is rest =
         at_first q e (insert_entry order more n v)
-        ∙ ap (cond (words_eq q (words e.0)) (Some (item e))) rest
-        ∙ swap (words_eq q (words e.0)) (words_eq q (words n)) (λ f g. differ f g)
-        ∙ ap (cond (words_eq q (words n)) (Some (item (n, v)))) (sym (at_first q e more))
+        ∙ ap (cond (key_eq q (words e.0)) (Some (item e))) rest
+        ∙ swap (key_eq q (words e.0)) (key_eq q (words n)) (λ f g. differ f g)
+        ∙ ap (cond (key_eq q (words n)) (Some (item (n, v)))) (sym (at_first q e more))
       where
-        differ : words_eq q (words e.0) ≡ true → words_eq q (words n) ≡ true → ⊥
-        differ f g = true≢false (sym (words_refl (words n)) ∙ ap (words_eq (words n)) (sym (same_words q (words n) g) ∙ same_words q (words e.0) f) ∙ ap is_eq is)
+        differ : key_eq q (words e.0) ≡ true → key_eq q (words n) ≡ true → ⊥
+        differ f g = true≢false (sym (words_refl (words n)) ∙ ap (key_eq (words n)) (sym (same_words q (words n) g) ∙ same_words q (words e.0) f) ∙ ap is_eq is)
 
         swap : (b c : Bool) → (b ≡ true → c ≡ true → ⊥) → cond b (Some (item e)) (cond c (Some (item (n, v))) (at_key q more)) ≡ cond c (Some (item (n, v))) (cond b (Some (item e)) (at_key q more))
         swap true true h = absurd (h refl refl)
         swap true false h = refl
         swap false c h = refl
 
-    found_insert : (q : Words) (n : K) (v : V) (more : List (K × V)) → at_key q (insert_entry order more n v) ≡ cond (words_eq q (words n)) (Some (item (n, v))) (at_key q more)
+    found_insert : (q : TableKey) (n : K) (v : V) (more : List (K × V)) → at_key q (insert_entry order more n v) ≡ cond (key_eq q (words n)) (Some (item (n, v))) (at_key q more)
     found_insert q n v [] = at_first q (n, v) []
-    found_insert q n v (e ∷ more) = insert_at q n v e more (words_cmp (words n) (words e.0)) refl (found_insert q n v more)
+    found_insert q n v (e ∷ more) = insert_at q n v e more (key_cmp (words n) (words e.0)) refl (found_insert q n v more)
 
     pub inserted : (n : K) (v : V) (old new : List (K × V)) → new ≡ insert_entry order old n v → in_table new ≡ write (in_table old) (words n) (Some (item (n, v)))
     inserted n v old new is = ap in_table is ∙ same_table _ _ (λ q.
         get_in (insert_entry order old n v) q ∙ found_insert q n v old
-        ∙ ap (cond (words_eq q (words n)) (Some (item (n, v)))) (sym (get_in old q))
+        ∙ ap (cond (key_eq q (words n)) (Some (item (n, v)))) (sym (get_in old q))
         ∙ sym (get-write (in_table old) (words n) (Some (item (n, v))) q))
 
   -- ---- an entry is taken away
 
-  remove_at : (q : Words) (n : K) (e : K × V) (more : List (K × V)) (b : Bool) → words_eq (words n) (words e.0) ≡ b → words_eq q (words n) ≡ false →
+  remove_at : (q : TableKey) (n : K) (e : K × V) (more : List (K × V)) (b : Bool) → key_eq (words n) (words e.0) ≡ b → key_eq q (words n) ≡ false →
       at_key q (remove_entry (is_at (order n)) more) ≡ at_key q more →
       at_key q (cond b more (e ∷ remove_entry (is_at (order n)) more)) ≡ at_key q (e ∷ more)
   remove_at q n e more true is differ rest =
-      sym (at_first q e more ∙ ap (λ c. cond c (Some (item e)) (at_key q more)) (ap (words_eq q) (sym (same_words (words n) (words e.0) is)) ∙ differ))
-  remove_at q n e more false is differ rest = at_first q e _ ∙ ap (cond (words_eq q (words e.0)) (Some (item e))) rest ∙ sym (at_first q e more)
+      sym (at_first q e more ∙ ap (λ c. cond c (Some (item e)) (at_key q more)) (ap (key_eq q) (sym (same_words (words n) (words e.0) is)) ∙ differ))
+  remove_at q n e more false is differ rest = at_first q e _ ∙ ap (cond (key_eq q (words e.0)) (Some (item e))) rest ∙ sym (at_first q e more)
 
-  found_remove : (q : Words) (n : K) (more : List (K × V)) → words_eq q (words n) ≡ false → at_key q (remove_entry (is_at (order n)) more) ≡ at_key q more
+  found_remove : (q : TableKey) (n : K) (more : List (K × V)) → key_eq q (words n) ≡ false → at_key q (remove_entry (is_at (order n)) more) ≡ at_key q more
   found_remove q n [] differ = refl
-  found_remove q n (e ∷ more) differ = remove_at q n e more (words_eq (words n) (words e.0)) refl differ (found_remove q n more differ)
+  found_remove q n (e ∷ more) differ = remove_at q n e more (key_eq (words n) (words e.0)) refl differ (found_remove q n more differ)
 
   none_at_key : (n : K) (more : List (K × V)) → lookup (is_at (order n)) more ≡ None → at_key (words n) more ≡ None
   none_at_key n [] e = refl
-  none_at_key n (x ∷ more) e = at_first (words n) x more ∙ at (words_eq (words n) (words x.0)) (none_at_key n more) e
+  none_at_key n (x ∷ more) e = at_first (words n) x more ∙ at (key_eq (words n) (words x.0)) (none_at_key n more) e
     where
       at : (b : Bool) → (lookup (is_at (order n)) more ≡ None → at_key (words n) more ≡ None) → cond b (Some x.1) (lookup (is_at (order n)) more) ≡ None → cond b (Some (item x)) (at_key (words n) more) ≡ None
       at true rest f = absurd (let g : Some x.1 ≡ None = f in cc)
       at false rest f = rest f
 
   pub removed : (n : K) (old new : List (K × V)) → new ≡ remove_entry (is_at (order n)) old → lookup (is_at (order n)) new ≡ None → in_table new ≡ write (in_table old) (words n) None
-  removed n old new is gone = same_table _ _ (λ q. get_in new q ∙ at q (words_eq q (words n)) refl ∙ sym (get-write (in_table old) (words n) None q))
+  removed n old new is gone = same_table _ _ (λ q. get_in new q ∙ at q (key_eq q (words n)) refl ∙ sym (get-write (in_table old) (words n) None q))
     where
-      at : (q : Words) (b : Bool) → words_eq q (words n) ≡ b → at_key q new ≡ cond b None (fm.get (in_table old) q)
+      at : (q : TableKey) (b : Bool) → key_eq q (words n) ≡ b → at_key q new ≡ cond b None (fm.get (in_table old) q)
       at q true e = ap (λ k. at_key k new) (same_words q (words n) e) ∙ none_at_key n new gone
       at q false e = ap (at_key q) is ∙ found_remove q n old e ∙ sym (get_in old q)
 
   -- ---- the entries in order
 
-  below_is : (n : K) (more : List (K × V)) → AllByRecursion (λ m. order n m ≡ Less) (keys_of more) → T (es.below_all words_cmp (words n) (map (λ a. (key a, a)) (map item more)))
+  below_is : (n : K) (more : List (K × V)) → AllByRecursion (λ m. order n m ≡ Less) (keys_of more) → T (es.below_all key_cmp (words n) (map (λ a. (key a, a)) (map item more)))
   below_is n [] h = tt
-  below_is n (e ∷ more) h = both _ _ (lt (words n) (key (item e)) (ap (words_cmp (words n)) (keyed e) ∙ h.0)) (below_is n more h.1)
+  below_is n (e ∷ more) h = both _ _ (lt (words n) (key (item e)) (ap (key_cmp (words n)) (keyed e) ∙ h.0)) (below_is n more h.1)
 
   pub sorted_is : (more : List (K × V)) → IsStrictlySortedBy order (keys_of more) → IsSorted key (map item more)
   unfolding IsStrictlySortedBy
   sorted_is [] h = tt
-  sorted_is (e ∷ more) h = both _ _ (subst (λ k. T (es.below_all words_cmp k (map (λ a. (key a, a)) (map item more)))) (sym (keyed e)) (below_is e.0 more h.0)) (sorted_is more h.1)
+  sorted_is (e ∷ more) h = both _ _ (subst (λ k. T (es.below_all key_cmp k (map (λ a. (key a, a)) (map item more)))) (sym (keyed e)) (below_is e.0 more h.0)) (sorted_is more h.1)
 
   none_below : (n : K) (more : List (K × V)) → AllByRecursion (λ m. order n m ≡ Less) (keys_of more) → at_key (words n) more ≡ None
   none_below n [] h = refl
@@ -177,22 +177,22 @@ module _ {K V X : Type 0} (words : K → Words) (key : X → Words) (item : K ×
   put_all [] t = t
   put_all (e ∷ more) t = put_all more (write t (words e.0) (Some (item e)))
 
-  get_all : (more : List (K × V)) (t : Table X) (q : Words) → IsStrictlySortedBy order (keys_of more) → fm.get (put_all more t) q ≡ cond (is_some (at_key q more)) (at_key q more) (fm.get t q)
+  get_all : (more : List (K × V)) (t : Table X) (q : TableKey) → IsStrictlySortedBy order (keys_of more) → fm.get (put_all more t) q ≡ cond (is_some (at_key q more)) (at_key q more) (fm.get t q)
   unfolding IsStrictlySortedBy
   get_all [] t q h = refl
   get_all (e ∷ more) t q h =
       get_all more (write t (words e.0) (Some (item e))) q h.1
       ∙ ap (cond (is_some (at_key q more)) (at_key q more)) (get-write t (words e.0) (Some (item e)) q)
-      ∙ at (words_eq q (words e.0)) refl (at_key q more) refl
+      ∙ at (key_eq q (words e.0)) refl (at_key q more) refl
       ∙ ap (λ o. cond (is_some o) o (fm.get t q)) (sym (at_first q e more))
     where
-      at : (b : Bool) → words_eq q (words e.0) ≡ b → (o : Option X) → at_key q more ≡ o → cond (is_some o) o (cond b (Some (item e)) (fm.get t q)) ≡ cond (is_some (cond b (Some (item e)) o)) (cond b (Some (item e)) o) (fm.get t q)
+      at : (b : Bool) → key_eq q (words e.0) ≡ b → (o : Option X) → at_key q more ≡ o → cond (is_some o) o (cond b (Some (item e)) (fm.get t q)) ≡ cond (is_some (cond b (Some (item e)) o)) (cond b (Some (item e)) o) (fm.get t q)
       at true is None f = refl
       at true is (Some x) f = absurd (let g : Some x ≡ None = sym f ∙ ap (λ k. at_key k more) (same_words q (words e.0) is) ∙ none_below e.0 more h.0 in cc)
       at false is o f = refl
 
   pub all_put : (more : List (K × V)) → IsStrictlySortedBy order (keys_of more) → put_all more fm.empty ≡ in_table more
-  all_put more h = same_table _ _ (λ q. get_all more fm.empty q h ∙ ap (cond (is_some (at_key q more)) (at_key q more)) (fm.get-empty {X = X} words_cmp q) ∙ at (at_key q more) ∙ sym (get_in more q))
+  all_put more h = same_table _ _ (λ q. get_all more fm.empty q h ∙ ap (cond (is_some (at_key q more)) (at_key q more)) (fm.get-empty {X = X} key_cmp q) ∙ at (at_key q more) ∙ sym (get_in more q))
     where
       at : (o : Option X) → cond (is_some o) o None ≡ o
       at None = refl

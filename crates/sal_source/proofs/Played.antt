@@ -7,11 +7,11 @@ use Rattle.sal_handler.specs.Calls.{Meaning}
 use Rattle.sal_source.specs.declared.state.Setup.{Setup}
 use Rattle.sal_source.specs.declared.state.Step.{Step}
 use Rattle.sal_source.specs.Configuration.{Configuration}
-use Rattle.sal_source.specs.Step.{step, ready_only}
+use Rattle.sal_source.specs.Step.{step, if_ready}
 use Rattle.sal_source.specs.Run.{steps}
-use Rattle.sal_source.specs.Changes.{Takes}
+use Rattle.sal_source.specs.code.Changes.{Takes}
 
-pub ready : (o : Option Message) (m : Message) (f : Message → Option Configuration) → o ≡ Some m → is_ready m ≡ true → ready_only o f ≡ f m
+pub ready : (o : Option Message) (m : Message) (f : Message → Option Configuration) → o ≡ Some m → is_ready m ≡ true → if_ready o f ≡ f m
 ready o m f e r = rw (e, r) refl
 
 -- the outcome of this very call

@@ -12,21 +12,21 @@ use Rattle.sal_value.specs.declared.value.Value.{Value}
 use Rattle.sal_value.specs.declared.value.Value.TheVariants.{Null}
 use Rattle.sal_mail.specs.declared.message.Message.{Message}
 use Rattle.sal_mail.specs.declared.effects.Actor.{Actor}
-use Rattle.sal_mail.specs.Message.{known, is_known}
+use Rattle.sal_mail.specs.Message.{piece_with_reply, is_known}
 use Rattle.sal_source.specs.declared.state.Setup.{Setup}
 use Rattle.sal_source.specs.declared.state.Step.TheVariants as step
-use Rattle.sal_source.specs.Table.{Words, Table, words_eq, write, table_of}
+use Rattle.sal_source.specs.Table.{TableKey, Table, key_eq, write, table_of}
 use Rattle.sal_source.specs.Keys.{name_key, made_key, message_key, actor_key}
-use Rattle.sal_source.specs.Listed.{found}
+use Rattle.sal_source.specs.code.Lists.{first_at_key}
 use Rattle.sal_mail.specs.declared.effects.Effects.{Effects}
 use Rattle.sal_handler.specs.declared.turn.Outcome.{Outcome}
 use Rattle.sal_handler.specs.declared.turn.Outcome.TheVariants as outcome
 use Rattle.sal_handler.specs.declared.turn.Began.TheVariants as began
 use Rattle.sal_handler.specs.Calls.{Meaning}
-use Rattle.sal_source.specs.Configuration.{Waiting, Configuration, start_name, start_actor, act_message, first_of}
+use Rattle.sal_source.specs.Configuration.{Waiting, Configuration, start_name, start_actor, act_message, first_by}
 use Rattle.sal_mail.specs.declared.message.Reply.TheVariants.{Nobody, Tok}
-use Rattle.sal_source.specs.Give.{resolve, give, give_all, give_to, settled, told_after}
-use Rattle.sal_source.specs.Meeting.{CalledBy}
+use Rattle.sal_source.specs.Give.{resolve, give, give_all, give_to, settle_all, settle_all_answers}
+use Rattle.sal_source.specs.code.Handling.{CalledBy}
 use Rattle.sal_source.proofs.Played.{ready}
 use Rattle.sal_source.proofs.Handled.{handle_called}
 use Rattle.sal_source.proofs.Legal.{null_legal, given_alone, told_alone}
@@ -35,12 +35,12 @@ use Rattle.sal_source.specs.Run.{steps}
 use Rattle.sal_source.specs.Prints.{string_in, line_of, lines_of, print_steps, trace, Runs}
 use Rattle.sal_mail.specs.declared.message.Reply.{Reply}
 use Rattle.sal_handler.specs.Fits.{meaning_of}
-use Rattle.sal_handler.specs.Listing.{stages_in}
+use Rattle.sal_handler.specs.code.Listing.{stages_in}
 use Rattle.sal_handler.specs.Prints.{Print, Outline, stage_of, program_of, AreShort, argument_known, print_message, reply_before, chained as sent_by, print_effects}
 use Rattle.sal_handler.proofs.Sending.{begins, sends}
 use Rattle.sal_handler.proofs.Listed.{stages_are}
 use Rattle.std.proofs.Common.{true≢false}
-use Rattle.sal_source.specs.Table.{words_cmp}
+use Rattle.sal_source.specs.Table.{key_cmp}
 use Rattle.sal_mail.specs.declared.effects.Creation.{Creation}
 use Rattle.sal_value.specs.declared.name.Name.{Name}
 use Rattle.sal_source.proofs.Tables.{words_refl, same_words, words_apart, same_table, get-write, get-table_of, table-each}
@@ -71,15 +71,15 @@ handle_is o m e short few = sends o (s.call_of m (start_actor 0 []) []) refl e (
 
 -- ---- tables of one more message
 
-module _ {X : Type 0} (key : X → Words) where
+module _ {X : Type 0} (key : X → TableKey) where
   get_head : (x : X) (xs : List X) → fm.get (table_of key (x ∷ xs)) (key x) ≡ Some x
-  get_head x xs = get-table_of key (x ∷ xs) (key x) ∙ ap (λ b. cond b (Some x) (found key (key x) xs)) (words_refl (key x))
+  get_head x xs = get-table_of key (x ∷ xs) (key x) ∙ ap (λ b. cond b (Some x) (first_at_key key (key x) xs)) (words_refl (key x))
 
-  drop_head : (x : X) (xs : List X) → found key (key x) xs ≡ None → write (table_of key (x ∷ xs)) (key x) None ≡ table_of key xs
-  drop_head x xs new = same_table _ _ (λ q. get-write (table_of key (x ∷ xs)) (key x) None q ∙ ap (cond (words_eq q (key x)) None) (get-table_of key (x ∷ xs) q) ∙ at q (words_eq q (key x)) refl ∙ sym (get-table_of key xs q))
+  drop_head : (x : X) (xs : List X) → first_at_key key (key x) xs ≡ None → write (table_of key (x ∷ xs)) (key x) None ≡ table_of key xs
+  drop_head x xs new = same_table _ _ (λ q. get-write (table_of key (x ∷ xs)) (key x) None q ∙ ap (cond (key_eq q (key x)) None) (get-table_of key (x ∷ xs) q) ∙ at q (key_eq q (key x)) refl ∙ sym (get-table_of key xs q))
     where
-      at : (q : Words) (b : Bool) → words_eq q (key x) ≡ b → cond b None (cond b (Some x) (found key q xs)) ≡ found key q xs
-      at q true e = sym (ap (λ k. found key k xs) (same_words q (key x) e) ∙ new)
+      at : (q : TableKey) (b : Bool) → key_eq q (key x) ≡ b → cond b None (cond b (Some x) (first_at_key key q xs)) ≡ first_at_key key q xs
+      at q true e = sym (ap (λ k. first_at_key key k xs) (same_words q (key x) e) ∙ new)
       at q false e = refl
 
 -- ---- `act` is handled
@@ -111,7 +111,7 @@ at n number ps output = record {
 }
 
 abbrev begun : List Value → Configuration
-begun words = first_of words (began.Actor 0 0 [])
+begun words = first_by words (began.Actor 0 0 [])
 
 abbrev act : List Value → Message
 act words = act_message words 0 0
@@ -122,8 +122,8 @@ called words = record { pending = get_head message_key (act words) []; ready = r
 -- a reply to nobody
 gave_nobody : (c : Configuration) → give_all ((Nobody, Null) ∷ []) c ≡ c
 gave_nobody c =
-    let w : settled ((Nobody, Null) ∷ []) c.waiting ≡ c.waiting = given_alone Nobody Null c.waiting null_legal refl in
-    let t : c.answers ++ told_after ((Nobody, Null) ∷ []) c.waiting ≡ c.answers = ap (λ l. c.answers ++ l) (told_alone Nobody Null c.waiting null_legal refl) ∙ append-nil c.answers in
+    let w : settle_all ((Nobody, Null) ∷ []) c.waiting ≡ c.waiting = given_alone Nobody Null c.waiting null_legal refl in
+    let t : c.answers ++ settle_all_answers ((Nobody, Null) ∷ []) c.waiting ≡ c.answers = ap (λ l. c.answers ++ l) (told_alone Nobody Null c.waiting null_legal refl) ∙ append-nil c.answers in
     λ i. record c { waiting = w i; answers = t i }
 
 acts : (o : Outline) (setup : Setup) (words : List Value) → AreShort o.prints → length o.prints ≤ 1024 →
@@ -134,12 +134,12 @@ acts o setup words short few =
     let e : Effects = effects_of (act words) o.prints in
     handle_called (meaning o).outcome (Outside 0) 0 [] (begun words) (act words) (start_actor 0 []) (called words)
     ∙ ap (λ (x : Outcome). s.after_outcome x (Outside 0) 0 [] (act words) (start_actor 0 []).0 dropped) (handle_is o (act words) refl short few)
-    ∙ ap Some (gave_nobody (s.installed e (start_actor 0 []).0 dropped))
+    ∙ ap Some (gave_nobody (s.with_effects e (start_actor 0 []).0 dropped))
     ∙ ap (λ (t : Table Message). Some (record (at (0 + length o.prints) 0 [] []) { waiting = record { messages = t; joins = fm.empty } })) (filled None 0 o.prints _ (drop_head message_key (act words) [] refl))
 
 -- ---- a stage is printed
 
-later : (k number : ℕ) (before : Option ℕ) (ps : List Print) → k < number → found message_key (made_key start_name k) (chained before number ps) ≡ None
+later : (k number : ℕ) (before : Option ℕ) (ps : List Print) → k < number → first_at_key message_key (made_key start_name k) (chained before number ps) ≡ None
 later k number before [] lt = refl
 later k number before (p ∷ ps) lt =
     let apart = words_apart (made_key start_name k) (made_key start_name number) (λ e. differ e) in
@@ -148,7 +148,7 @@ later k number before (p ∷ ps) lt =
     differ : made_key start_name k ≡ made_key start_name number → ⊥
     differ e = let f : k ≡ number = cc in absurd (omega arith)
 
-known_stay : (number : ℕ) (text : Option (List ℕ × ℕ)) → map (known number Null) (argument_known text) ≡ argument_known text
+known_stay : (number : ℕ) (text : Option (List ℕ × ℕ)) → map (piece_with_reply number Null) (argument_known text) ≡ argument_known text
 known_stay number None = refl
 known_stay number (Some text) = refl
 
@@ -173,7 +173,7 @@ text_is : (text : Option (List ℕ × ℕ)) → s.argument_text (argument_known 
 text_is None = refl
 text_is (Some text) = refl
 
-printed_is : (p : Print) (before : Option ℕ) (number : ℕ) (last : Reply) → s.printed (sent before number p last) ≡ line_of p
+printed_is : (p : Print) (before : Option ℕ) (number : ℕ) (last : Reply) → s.message_text (sent before number p last) ≡ line_of p
 printed_is p before number last = rw (text_is p.text) (by_name (bytes_eq p.handler.text (codes "println")))
   where
     by_name : (b : Bool) → (if nat_eq (if b then 1 else 0) 1 then string_in p.text ++ 10 ∷ [] else string_in p.text) ≡ (if b then string_in p.text ++ 10 ∷ [] else string_in p.text)
@@ -187,8 +187,8 @@ told_one n number ps output = record (at n number [] output) { waiting = wait_fo
 -- the reply of a stage that has a stage after it
 gave_token : (number : ℕ) (c : Configuration) → give_all ((Tok start_name number, Null) ∷ []) c ≡ record c { waiting = give_to (Tok start_name number) Null c.waiting }
 gave_token number c =
-    let w : settled ((Tok start_name number, Null) ∷ []) c.waiting ≡ give_to (Tok start_name number) Null c.waiting = given_alone (Tok start_name number) Null c.waiting null_legal refl in
-    let t : c.answers ++ told_after ((Tok start_name number, Null) ∷ []) c.waiting ≡ c.answers = ap (λ l. c.answers ++ l) (told_alone (Tok start_name number) Null c.waiting null_legal refl) ∙ append-nil c.answers in
+    let w : settle_all ((Tok start_name number, Null) ∷ []) c.waiting ≡ give_to (Tok start_name number) Null c.waiting = given_alone (Tok start_name number) Null c.waiting null_legal refl in
+    let t : c.answers ++ settle_all_answers ((Tok start_name number, Null) ∷ []) c.waiting ≡ c.answers = ap (λ l. c.answers ++ l) (told_alone (Tok start_name number) Null c.waiting null_legal refl) ∙ append-nil c.answers in
     λ i. record c { waiting = w i; answers = t i }
 
 given_one : (n number : ℕ) (ps : List Print) (output : List (List ℕ)) → give (owed_to number ps) Null (told_one n number ps output) ≡ at n (number + 1) ps output
@@ -205,7 +205,7 @@ prints_one o setup n number p ps output =
     let m : Message = sent None number p (owed_to number ps) in
     let c : Configuration = at n number (p ∷ ps) output in
     ready (s.pending start_name number c) m (λ m. s.print_message start_name number m c) (get_head message_key m (chained (Some number) (number + 1) ps)) (rw (args_known p.text) refl)
-    ∙ ap (λ (t : Table Message). Some (give m.reply Null (record c { waiting = record { messages = t; joins = fm.empty }; output = output ++ s.printed m ∷ [] }))) (drop_head message_key m (chained (Some number) (number + 1) ps) (later number (number + 1) (Some number) ps (omega arith)))
+    ∙ ap (λ (t : Table Message). Some (give m.reply Null (record c { waiting = record { messages = t; joins = fm.empty }; output = output ++ s.message_text m ∷ [] }))) (drop_head message_key m (chained (Some number) (number + 1) ps) (later number (number + 1) (Some number) ps (omega arith)))
     ∙ ap (λ text. Some (give m.reply Null (told_one n number ps (output ++ text ∷ [])))) (printed_is p None number (owed_to number ps))
     ∙ ap (λ d. Some d) (given_one n number ps (output ++ line_of p ∷ []))
 
@@ -220,11 +220,11 @@ prints_all o setup n number (p ∷ ps) output =
     last : (a b : ℕ) (x y : List (List ℕ)) → a ≡ b → x ≡ y → Some (at n a [] x) ≡ Some (at n b [] y)
     last a b x y e f = ap (λ z. Some (at n a [] z)) f
 
-none_left : (q : Words) → fm.get (table_of message_key []) q ≡ None
+none_left : (q : TableKey) → fm.get (table_of message_key []) q ≡ None
 none_left q = get-table_of message_key [] q
 
-no_creation : (q : Words) → fm.get no_creations q ≡ None
-no_creation q = fm.get-empty words_cmp q
+no_creation : (q : TableKey) → fm.get no_creations q ≡ None
+no_creation q = fm.get-empty key_cmp q
 
 no_step : (o : Outline) (setup : Setup) (n number : ℕ) (output : List (List ℕ)) → s.IsFinal (meaning o) setup (at n number [] output)
 unfolding s.step
@@ -243,7 +243,7 @@ runs o setup few short = record {
   count = counted o;
   end = at (0 + length o.prints) (0 + length o.prints) [] (lines_of o.prints);
   is_run =
-      ap (λ b. steps (meaning o) setup (first_of setup.words b) (trace (length o.prints))) (begins o)
+      ap (λ b. steps (meaning o) setup (first_by setup.words b) (trace (length o.prints))) (begins o)
       ∙ ap (option_and_then (λ d. steps (meaning o) setup d (print_steps 0 (length o.prints)))) (acts o setup setup.words short few)
       ∙ prints_all o setup (0 + length o.prints) 0 o.prints [];
   output = refl;

@@ -2,7 +2,7 @@
 use Rattle.std.proofs.Common.{◌≡◌, ◌⊎◌, inl, inr, ℕ, ◌+◌, ◌≤◌, Bool, true, false, cond, ◌&&◌, ◌==◌, List, [], ◌∷◌, ◌++◌, map, length, refl, sym, ap, subst, ◌∙◌, arith, true≢false}
 use Rattle.std.proofs.lemmas.Bool.Decides.{Decides-eqb}
 use base.Stored.{Gv, gnil, gnum, gcons, Coded}
-use Rattle.sal_source.specs.Table.{total, Same}
+use Rattle.sal_source.specs.Table.{total, HasSameItems}
 
 pub total-append : {A : Type 0} (f : A → ℕ) (xs ys : List A) → total f (xs ++ ys) ≡ total f xs + total f ys
 total-append f [] ys = omega arith
@@ -74,26 +74,26 @@ module _ {A : Type 0} (t : Test A) where
         (y ∷ r.0, r.1, ap (λ l. y ∷ l) r.2)
   ]
 
-  pub copy_first : (x : A) (xs ys : List A) → Same (x ∷ xs) ys → 1 ≤ copies x ys
+  pub copy_first : (x : A) (xs ys : List A) → HasSameItems (x ∷ xs) ys → 1 ≤ copies x ys
   copy_first x xs ys s =
       let e : copies x (x ∷ xs) ≡ copies x ys = s.weighs (λ y. cond {A = ℕ} (t.eq x y) 1 0) in
       let one : cond {A = ℕ} (t.eq x x) 1 0 ≡ 1 = ap (λ (b : Bool). cond {A = ℕ} b 1 0) (t.itself x) in
       omega arith
 
-pub same_refl : {A : Type 0} (xs : List A) → Same xs xs
+pub same_refl : {A : Type 0} (xs : List A) → HasSameItems xs xs
 same_refl xs = record { weighs = λ f. refl }
 
-pub same_sym : {A : Type 0} {xs ys : List A} → Same xs ys → Same ys xs
+pub same_sym : {A : Type 0} {xs ys : List A} → HasSameItems xs ys → HasSameItems ys xs
 same_sym s = record { weighs = λ f. sym (s.weighs f) }
 
-pub same_trans : {A : Type 0} {xs ys zs : List A} → Same xs ys → Same ys zs → Same xs zs
+pub same_trans : {A : Type 0} {xs ys zs : List A} → HasSameItems xs ys → HasSameItems ys zs → HasSameItems xs zs
 same_trans s t = record { weighs = λ f. s.weighs f ∙ t.weighs f }
 
-pub same_eq : {A : Type 0} {xs ys : List A} → xs ≡ ys → Same xs ys
+pub same_eq : {A : Type 0} {xs ys : List A} → xs ≡ ys → HasSameItems xs ys
 same_eq e = record { weighs = λ f. ap (total f) e }
 
-pub same_length : {A : Type 0} (xs ys : List A) → Same xs ys → length xs ≡ length ys
+pub same_length : {A : Type 0} (xs ys : List A) → HasSameItems xs ys → length xs ≡ length ys
 same_length xs ys s = sym (total_none xs) ∙ s.weighs (λ x. 1) ∙ total_none ys
 
-pub same_map : {A B : Type 0} (g : A → B) (xs ys : List A) → Same xs ys → Same (map g xs) (map g ys)
+pub same_map : {A B : Type 0} (g : A → B) (xs ys : List A) → HasSameItems xs ys → HasSameItems (map g xs) (map g ys)
 same_map g xs ys s = record { weighs = λ f. total-map f g xs ∙ s.weighs (λ x. f (g x)) ∙ sym (total-map f g ys) }

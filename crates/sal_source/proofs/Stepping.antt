@@ -24,17 +24,17 @@ use Rattle.sal_mail.specs.Message.{is_ready}
 use Rattle.sal_handler.specs.declared.turn.Outcome.{Outcome}
 use Rattle.sal_handler.specs.declared.turn.Outcome.TheVariants.{Done, Trap}
 use Rattle.sal_handler.specs.Calls.{Call, Meaning}
-use Rattle.sal_handler.specs.Fair.{IsOld, IsOrderly}
+use Rattle.sal_handler.specs.WellFormed.{IsOldReply, IsOrderly}
 use Rattle.sal_source.specs.declared.state.Setup.{Setup}
 use Rattle.sal_source.specs.declared.state.Step.{Step}
 use Rattle.sal_source.specs.declared.state.Step.TheVariants.{Handle, Print, Bind, Refuse, Post}
-use Rattle.sal_source.specs.Table.{Words, words_eq}
+use Rattle.sal_source.specs.Table.{TableKey, key_eq}
 use Rattle.sal_source.specs.Keys.{name_key, made_key}
 use Rattle.sal_source.specs.Configuration.{Configuration}
-use Rattle.sal_source.specs.Give.{Given, give_all, told_after}
+use Rattle.sal_source.specs.Give.{DueReply, give_all, settle_all_answers}
 use Rattle.sal_source.specs.Posts.{fits_post, may_be_posted, post_message}
 use Rattle.sal_source.specs.Step as s
-use Rattle.sal_source.specs.Once.{one_if, number_of, next_number, takes}
+use Rattle.sal_source.specs.Once.{one_if, next_serial_of, next_serial, takes}
 use Rattle.sal_source.proofs.Tables.{words_tells}
 use Rattle.sal_source.proofs.Given.{contains_keys, keys_write}
 use Rattle.sal_source.proofs.Once.{each_written, each_put}
@@ -99,43 +99,43 @@ module _ (c : Configuration) (kept : KeptIn c) where
     same_left = record { grows = grown c.actors c.posted; waits = goes_same c.actors c.posted left.waiting }
 
     -- with a fault
-    faulted : (fresh : List Name) (kind : FaultKind) (d : Configuration) → s.unnamed fresh (s.add_fault kind maker serial left) ≡ Some d → Took maker serial c d
+    faulted : (fresh : List Name) (kind : FaultKind) (d : Configuration) → s.if_no_names fresh (s.add_fault kind maker serial left) ≡ Some d → Took maker serial c d
     faulted [] kind d e = let same : s.add_fault kind maker serial left ≡ d = cc in subst (Took maker serial c) same (took (s.add_fault kind maker serial left) (record { named = kept_left.named; keyed = kept_left.keyed; waits = kept_left.waits }) (record { grows = same_left.grows; waits = same_left.waits }) (omega arith))
     faulted (n ∷ ns) kind d e = absurd cc
 
     -- with replies
-    gave : (gs : List Given) (mid d : Configuration) → KeptIn mid → GoesTo left mid → mid.answers ≡ c.answers → length (told_after gs mid.waiting) ≤ 1 → Some (give_all gs mid) ≡ Some d → Took maker serial c d
+    gave : (gs : List DueReply) (mid d : Configuration) → KeptIn mid → GoesTo left mid → mid.answers ≡ c.answers → length (settle_all_answers gs mid.waiting) ≤ 1 → Some (give_all gs mid) ≡ Some d → Took maker serial c d
     gave gs mid d kept' goes old few e =
         let same : give_all gs mid ≡ d = cc in
-        subst (Took maker serial c) same (took (give_all gs mid) (kept_settled mid.actors mid.given mid.posted mid.waiting gs kept') (goes_settled left.actors mid.actors left.posted mid.posted left.waiting mid.waiting gs goes) (omega (arith, length-append mid.answers (told_after gs mid.waiting), ap length old, few)))
+        subst (Took maker serial c) same (took (give_all gs mid) (kept_settled mid.actors mid.given mid.posted mid.waiting gs kept') (goes_settled left.actors mid.actors left.posted mid.posted left.waiting mid.waiting gs goes) (omega (arith, length-append mid.answers (settle_all_answers gs mid.waiting), ap length old, few)))
 
     printed : (t : Target) (d : Configuration) → s.print_to t m left ≡ Some d → Took maker serial c d
     printed (target.Actor n) d e = absurd cc
-    printed target.Output d e = gave ((m.reply, v.Null) ∷ []) (s.add_output (s.printed m) left) d (record { named = kept_left.named; keyed = kept_left.keyed; waits = kept_left.waits }) (record { grows = same_left.grows; waits = same_left.waits }) refl (one_given left kept_left (m.reply, v.Null)) e
+    printed target.Output d e = gave ((m.reply, v.Null) ∷ []) (s.add_output (s.message_text m) left) d (record { named = kept_left.named; keyed = kept_left.keyed; waits = kept_left.waits }) (record { grows = same_left.grows; waits = same_left.waits }) refl (one_given left kept_left (m.reply, v.Null)) e
 
-    module _ (p : Meaning) (sizes : List ℕ) (orderly : (call : Call) (e : Effects) → IsOld call.me call.serial call.reply → p.outcome call ≡ Done e → IsOrderly sizes call e) (fresh : List Name) where
+    module _ (p : Meaning) (sizes : List ℕ) (orderly : (call : Call) (e : Effects) → IsOldReply call.me call.serial call.reply → p.outcome call ≡ Done e → IsOrderly sizes call e) (fresh : List Name) where
       came : (a : Actor × ℕ) → fm.get c.actors (name_key a.0.name) ≡ Some a → IsActor a.0.name → (o : Outcome) → p.outcome (s.call_of m a fresh) ≡ o → (d : Configuration) → s.after_outcome o maker serial fresh m a.0 left ≡ Some d → Took maker serial c d
       came a at actor (Trap kind) is d e = faulted fresh (Trapped kind) d e
       came a at actor (Done y) is d e = by (s.fits_fresh fresh y left) refl e
         where
-          by : (b : Bool) → s.fits_fresh fresh y left ≡ b → (if b then Some (give_all (s.step_gives y m.reply) (s.installed y a.0 left)) else None) ≡ Some d → Took maker serial c d
+          by : (b : Bool) → s.fits_fresh fresh y left ≡ b → (if b then Some (give_all (s.step_replies y m.reply) (s.with_effects y a.0 left)) else None) ≡ Some d → Took maker serial c d
           by false fits e = absurd cc
           by true fits e =
               let order = orderly (s.call_of m a fresh) y (old_reply c.actors c.posted a at actor m.reply fit.owed) is in
-              gave (s.step_gives y m.reply) (s.installed y a.0 left) d (kept_installed left kept_left m a fresh y sizes at actor fit.owed order fits) (goes_installed left kept_left m a fresh y sizes at actor fit.owed order fits) refl (few_given left kept_left m a fresh y sizes at actor fit.owed order fits) e
+              gave (s.step_replies y m.reply) (s.with_effects y a.0 left) d (kept_installed left kept_left m a fresh y sizes at actor fit.owed order fits) (goes_installed left kept_left m a fresh y sizes at actor fit.owed order fits) refl (few_given left kept_left m a fresh y sizes at actor fit.owed order fits) e
 
-      met : (n : Name) (o : Option (Actor × ℕ)) → fm.get c.actors (name_key n) ≡ o → (d : Configuration) → s.handled_by p.outcome maker serial fresh m o left ≡ Some d → Took maker serial c d
+      met : (n : Name) (o : Option (Actor × ℕ)) → fm.get c.actors (name_key n) ≡ o → (d : Configuration) → s.handle_if_actor p.outcome maker serial fresh m o left ≡ Some d → Took maker serial c d
       met n None is d e = absurd cc
       met n (Some a) is d e = by (s.understands a.0 m) e
         where
           it : IsKeyed (name_key n) a
           it = kept.keyed.at (name_key n) a is
 
-          by : (b : Bool) → (if b then s.after_outcome (p.outcome (s.call_of m a fresh)) maker serial fresh m a.0 left else s.unnamed fresh (s.add_fault NoHandler maker serial left)) ≡ Some d → Took maker serial c d
+          by : (b : Bool) → (if b then s.after_outcome (p.outcome (s.call_of m a fresh)) maker serial fresh m a.0 left else s.if_no_names fresh (s.add_fault NoHandler maker serial left)) ≡ Some d → Took maker serial c d
           by true e = came a (ap (fm.get c.actors) it.keyed ∙ is) it.actor (p.outcome (s.call_of m a fresh)) refl d e
           by false e = faulted fresh NoHandler d e
 
-      aimed : (t : Target) (d : Configuration) → s.handled_by p.outcome maker serial fresh m (s.actor_at t c) left ≡ Some d → Took maker serial c d
+      aimed : (t : Target) (d : Configuration) → s.handle_if_actor p.outcome maker serial fresh m (s.actor_at t c) left ≡ Some d → Took maker serial c d
       aimed (target.Actor n) d e = met n (fm.get c.actors (name_key n)) refl d e
       aimed target.Output d e = absurd cc
 
@@ -146,7 +146,7 @@ module _ (c : Configuration) (kept : KeptIn c) where
     is : o ≡ Some message
     leads : g message ≡ Some d
 
-  ready : (o : Option Message) (g : Message → Option Configuration) (d : Configuration) → s.ready_only o g ≡ Some d → Readied o g d
+  ready : (o : Option Message) (g : Message → Option Configuration) (d : Configuration) → s.if_ready o g ≡ Some d → Readied o g d
   ready None g d e = absurd cc
   ready (Some m) g d e = record { message = m; is = refl; leads = by (is_ready m) e }
     where
@@ -159,7 +159,7 @@ module _ (c : Configuration) (kept : KeptIn c) where
       let r = ready (s.pending maker serial c) (λ m. s.print_message maker serial m c) d e in
       printed maker serial r.message r.is r.message.target d r.leads
 
-  handled_took : (p : Meaning) (sizes : List ℕ) → ((call : Call) (e : Effects) → IsOld call.me call.serial call.reply → p.outcome call ≡ Done e → IsOrderly sizes call e) →
+  handled_took : (p : Meaning) (sizes : List ℕ) → ((call : Call) (e : Effects) → IsOldReply call.me call.serial call.reply → p.outcome call ≡ Done e → IsOrderly sizes call e) →
       (maker : Name) (serial : ℕ) (fresh : List Name) (d : Configuration) → s.handle_step p.outcome maker serial fresh c ≡ Some d → Took maker serial c d
   handled_took p sizes orderly maker serial fresh d e =
       let r = ready (s.pending maker serial c) (λ m. s.handle_message p.outcome maker serial fresh m c) d e in
@@ -183,7 +183,7 @@ module _ (c : Configuration) (kept : KeptIn c) where
   bound_by authorities maker serial (Some x) d e = by (s.is_served authorities x.1.name && not (s.is_given x.1 c)) refl e
     where
       there : Configuration
-      there = s.bound x.1 (s.drop_creation maker serial c)
+      there = s.bind_creation x.1 (s.drop_creation maker serial c)
 
       who : Name
       who = name.Uan x.1.name
@@ -191,7 +191,7 @@ module _ (c : Configuration) (kept : KeptIn c) where
       new : Actor × ℕ
       new = (s.bound_actor x.1, 0)
 
-      grew : fs.contains c.given (name_key who) ≡ false → (q : Words) → number_of (fm.get c.actors q) ≤ number_of (fm.get there.actors q)
+      grew : fs.contains c.given (name_key who) ≡ false → (q : TableKey) → next_serial_of (fm.get c.actors q) ≤ next_serial_of (fm.get there.actors q)
       grew free q =
           let absent : fm.contains_key c.actors (name_key who) ≡ false = sym (contains_keys c.actors (name_key who)) ∙ ap (λ g. fs.contains g (name_key who)) (sym kept.named) ∙ free in
           elim (words_tells q (name_key who)) [
@@ -224,7 +224,7 @@ module _ (c : Configuration) (kept : KeptIn c) where
   posted_keeps fits number to behavior handler args d e = by (fits && fits_post c.posted number to behavior args) refl e
     where
       there : Configuration
-      there = s.posted number to behavior handler args c
+      there = s.after_post number to behavior handler args c
 
       maker : Name
       maker = name.Outside number
@@ -238,21 +238,21 @@ module _ (c : Configuration) (kept : KeptIn c) where
           at false e = omega arith
           at true e = let later : nat_le n number ≡ true = le-leb n number (omega (arith, leb-true n c.posted e, less)) in omega (arith, ap one_if later)
 
-      now : next_number there.actors number maker ≡ 1
+      now : next_serial there.actors number maker ≡ 1
       now = ap one_if (le-leb number number (omega arith))
 
-      before : c.posted < number → next_number c.actors c.posted maker ≡ 0
+      before : c.posted < number → next_serial c.actors c.posted maker ≡ 0
       before less = ap one_if (lt-leb number c.posted less)
 
       fit : c.posted < number → Fits there.actors number (made_key maker 0) (post_message number to behavior handler args).reply
       fit less = record {
         owed = tt;
-        number = λ n k same. let p = same_made maker n 0 k same in let next : next_number there.actors number n ≡ 1 = ap (next_number there.actors number) (sym p.0) ∙ now in omega (arith, next, p.1);
+        number = λ n k same. let p = same_made maker n 0 k same in let next : next_serial there.actors number n ≡ 1 = ap (next_serial there.actors number) (sym p.0) ∙ now in omega (arith, next, p.1);
       }
 
       was : c.posted < number → WasThere c.actors c.posted (fm.contains_key c.waiting.messages) (made_key maker 0) (post_message number to behavior handler args).reply
       was less = record {
-        there = λ n k same l. let p = same_made maker n 0 k same in let next : next_number c.actors c.posted n ≡ 0 = ap (next_number c.actors c.posted) (sym p.0) ∙ before less in absurd (omega (arith, next, l));
+        there = λ n k same l. let p = same_made maker n 0 k same in let next : next_serial c.actors c.posted n ≡ 0 = ap (next_serial c.actors c.posted) (sym p.0) ∙ before less in absurd (omega (arith, next, l));
       }
 
       keeps : c.posted < number → Keeps c there
@@ -288,7 +288,7 @@ module _ (c : Configuration) (kept : KeptIn c) where
   none_taken : (one : Step) (d : Configuration) → Keeps c d → ((maker : Name) (serial : ℕ) → takes maker serial one ≡ 0) → OneStep one c d
   none_taken one d k none = record { keeps = k; takes = λ maker serial. inl (none maker serial) }
 
-  one_taken : (one : Step) (m : Name) (n : ℕ) (d : Configuration) → Took m n c d → ((maker : Name) (serial : ℕ) → takes maker serial one ≡ one_if (words_eq (made_key maker serial) (made_key m n))) → OneStep one c d
+  one_taken : (one : Step) (m : Name) (n : ℕ) (d : Configuration) → Took m n c d → ((maker : Name) (serial : ℕ) → takes maker serial one ≡ one_if (key_eq (made_key maker serial) (made_key m n))) → OneStep one c d
   one_taken one m n d t is = record {
     keeps = t.keeps;
     takes = λ maker serial.
@@ -298,7 +298,7 @@ module _ (c : Configuration) (kept : KeptIn c) where
         ];
   }
 
-  pub one_step : (p : Meaning) (sizes : List ℕ) → ((call : Call) (e : Effects) → IsOld call.me call.serial call.reply → p.outcome call ≡ Done e → IsOrderly sizes call e) → (setup : Setup) (one : Step) (d : Configuration) → s.step p setup c one ≡ Some d → OneStep one c d
+  pub one_step : (p : Meaning) (sizes : List ℕ) → ((call : Call) (e : Effects) → IsOldReply call.me call.serial call.reply → p.outcome call ≡ Done e → IsOrderly sizes call e) → (setup : Setup) (one : Step) (d : Configuration) → s.step p setup c one ≡ Some d → OneStep one c d
   unfolding s.step
   one_step p sizes orderly setup (Handle m n fresh) d e = one_taken (Handle m n fresh) m n d (handled_took p sizes orderly m n fresh d e) (λ maker serial. refl)
   one_step p sizes orderly setup (Print m n) d e = one_taken (Print m n) m n d (printed_took m n d e) (λ maker serial. refl)

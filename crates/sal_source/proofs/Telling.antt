@@ -13,17 +13,17 @@ use Rattle.sal_mail.specs.declared.effects.Actor.{Actor}
 use Rattle.sal_mail.specs.declared.effects.Effects.{Effects}
 use Rattle.sal_mail.specs.declared.effects.Answer.{Answer}
 use Rattle.sal_mail.specs.declared.effects.Answer.TheVariants as answer
-use Rattle.sal_mail.specs.Address.{address}
-use Rattle.sal_mail.specs.Message.{is_full, collected}
-use Rattle.sal_handler.specs.Fair.{EachOf, IsNew, IsOwedWell, IsWithin, IsOrderly, passes, owes}
-use Rattle.sal_handler.specs.Fair as f
+use Rattle.sal_mail.specs.ReplyKeys.{reply_key}
+use Rattle.sal_mail.specs.Message.{is_full, join_value}
+use Rattle.sal_handler.specs.WellFormed.{EachOf, IsNewReply, IsAllowedReply, IsWithin, IsOrderly, passes, owes}
+use Rattle.sal_handler.specs.WellFormed as f
 use Rattle.sal_handler.proofs.Addresses.{each_more}
-use Rattle.sal_source.specs.Table.{Words, words_eq, total}
+use Rattle.sal_source.specs.Table.{TableKey, key_eq, total}
 use Rattle.sal_source.specs.Keys.{name_key, made_key}
 use Rattle.sal_source.specs.Configuration.{Configuration, start_name}
-use Rattle.sal_source.specs.Give.{Given, array_of, told_after, most}
-use Rattle.sal_source.specs.Step.{fits_fresh, call_of, installed, arrays, answered, step_gives}
-use Rattle.sal_source.specs.Once.{one_if, next_number}
+use Rattle.sal_source.specs.Give.{DueReply, full_join_reply, settle_all_answers, settle_bound}
+use Rattle.sal_source.specs.Step.{fits_fresh, call_of, with_effects, full_join_replies, answer_replies, step_replies}
+use Rattle.sal_source.specs.Once.{one_if, next_serial}
 use Rattle.sal_source.proofs.Tables.{words_refl}
 use Rattle.sal_source.proofs.Same.{total-append}
 use Rattle.sal_source.proofs.Once.{each_opened}
@@ -32,7 +32,7 @@ use Rattle.sal_source.proofs.Installing.{kept_installed, before_me, after_me}
 use Rattle.sal_source.proofs.Answering.{is_own, foreign, foreign_most, own_not, Own, Any, OwnIn, few_answers}
 
 -- no join with this maker's next number is open
-closed_at : (c : Configuration) → KeptIn c → (me : Name) (n : ℕ) → next_number c.actors c.posted me ≤ n → one_if (fm.contains_key c.waiting.joins (made_key me n)) ≡ 0
+closed_at : (c : Configuration) → KeptIn c → (me : Name) (n : ℕ) → next_serial c.actors c.posted me ≤ n → one_if (fm.contains_key c.waiting.joins (made_key me n)) ≡ 0
 closed_at c kept me n l = by (fm.contains_key c.waiting.joins (made_key me n)) refl
   where
     by : (b : Bool) → fm.contains_key c.waiting.joins (made_key me n) ≡ b → one_if b ≡ 0
@@ -42,21 +42,21 @@ closed_at c kept me n l = by (fm.contains_key c.waiting.joins (made_key me n)) r
         absurd (omega (arith, l, (kept.waits.joins.at (made_key me n) x.0 x.1).number me n refl))
 
 -- none of the joins that were there has a number from here on
-old_own : (c : Configuration) → KeptIn c → (me : Name) (from : ℕ) (special : Words) → next_number c.actors c.posted me ≤ from → (key : Words) (r : Reply) → Fits c.actors c.posted key r → Own me from special key r
+old_own : (c : Configuration) → KeptIn c → (me : Name) (from : ℕ) (special : TableKey) → next_serial c.actors c.posted me ≤ from → (key : TableKey) (r : Reply) → Fits c.actors c.posted key r → Own me from special key r
 old_own c kept me from special l key r h = record { at = λ n same low. absurd (omega (arith, l, low, h.number me n same)) }
 
 -- ---- one reply
 
-pub one_given : (c : Configuration) → KeptIn c → (g : Given) → length (told_after (g ∷ []) c.waiting) ≤ 1
+pub one_given : (c : Configuration) → KeptIn c → (g : DueReply) → length (settle_all_answers (g ∷ []) c.waiting) ≤ 1
 one_given c kept g =
     let me = start_name in
-    let from : ℕ = next_number c.actors c.posted start_name in
-    let special : Words = made_key start_name from in
+    let from : ℕ = next_serial c.actors c.posted start_name in
+    let special : TableKey = made_key start_name from in
     let own : OwnIn start_name from special c.waiting = record {
       messages = record { at = λ key m is. tt };
       joins = record { at = λ key j is. old_own c kept start_name from special (omega arith) key j.1.reply (kept.waits.joins.at key j is) };
     } in
-    omega (arith, few_answers start_name from special (most (g ∷ []) c.waiting) (g ∷ []) c.waiting own, foreign_most start_name from g.0, closed_at c kept start_name from (omega arith))
+    omega (arith, few_answers start_name from special (settle_bound (g ∷ []) c.waiting) (g ∷ []) c.waiting own, foreign_most start_name from g.0, closed_at c kept start_name from (omega arith))
 
 -- ---- those of a handler
 
@@ -75,25 +75,25 @@ module _ (c : Configuration) (kept : KeptIn c) (m : Message) (a : Actor × ℕ) 
   abbrev own : Reply → Bool
   own = is_own me a.1
 
-  new_own : (r : Reply) → IsNew me a.1 e.serial r → own r ≡ true
+  new_own : (r : Reply) → IsNewReply me a.1 e.serial r → own r ≡ true
   new_own Nobody h = absurd h
   new_own (Outside n) h = absurd h
-  new_own (Tok owner n) h = mine owner n h.0 h.1.0
+  new_own (Tok maker n) h = mine maker n h.0 h.1.0
     where
-      mine : (owner : Name) (n : ℕ) → owner ≡ me → a.1 ≤ n → words_eq (name_key me) (name_key owner) && nat_le a.1 n ≡ true
-      mine owner n same l = rw (ap (λ z. words_eq (name_key me) (name_key z)) same ∙ words_refl (name_key me), le-leb a.1 n l) refl
-  new_own (Place owner n i) h = mine owner n h.0 h.1.0
+      mine : (maker : Name) (n : ℕ) → maker ≡ me → a.1 ≤ n → key_eq (name_key me) (name_key maker) && nat_le a.1 n ≡ true
+      mine maker n same l = rw (ap (λ z. key_eq (name_key me) (name_key z)) same ∙ words_refl (name_key me), le-leb a.1 n l) refl
+  new_own (Place maker n i) h = mine maker n h.0 h.1.0
     where
-      mine : (owner : Name) (n : ℕ) → owner ≡ me → a.1 ≤ n → words_eq (name_key me) (name_key owner) && nat_le a.1 n ≡ true
-      mine owner n same l = rw (ap (λ z. words_eq (name_key me) (name_key z)) same ∙ words_refl (name_key me), le-leb a.1 n l) refl
+      mine : (maker : Name) (n : ℕ) → maker ≡ me → a.1 ≤ n → key_eq (name_key me) (name_key maker) && nat_le a.1 n ≡ true
+      mine maker n same l = rw (ap (λ z. key_eq (name_key me) (name_key z)) same ∙ words_refl (name_key me), le-leb a.1 n l) refl
 
   -- a new reply isn't the actor's own only where it is owed to whom the handled one is
-  well_owes : (r : Reply) → IsOwedWell me m.reply a.1 e.serial r → far r ≤ owes (address m.reply) r
+  well_owes : (r : Reply) → IsAllowedReply me m.reply a.1 e.serial r → far r ≤ owes (reply_key m.reply) r
   well_owes r (inl same) = let none : far r ≡ 0 = ap far same in omega (arith, none)
-  well_owes r (inr (inl same)) = let one : owes (address m.reply) r ≡ 1 = ap (owes (address m.reply)) same ∙ owes_own m.reply in omega (arith, one, foreign_most me a.1 r)
+  well_owes r (inr (inl same)) = let one : owes (reply_key m.reply) r ≡ 1 = ap (owes (reply_key m.reply)) same ∙ owes_own m.reply in omega (arith, one, foreign_most me a.1 r)
   well_owes r (inr (inr h)) = let none = own_not me a.1 r (new_own r h) in omega (arith, none)
 
-  well_none : m.reply ≡ Nobody → (r : Reply) → IsOwedWell me m.reply a.1 e.serial r → far r ≤ 0
+  well_none : m.reply ≡ Nobody → (r : Reply) → IsAllowedReply me m.reply a.1 e.serial r → far r ≤ 0
   well_none nobody r (inl same) = let none : far r ≡ 0 = ap far same in omega (arith, none)
   well_none nobody r (inr (inl same)) = let none : far r ≡ 0 = ap far (same ∙ nobody) in omega (arith, none)
   well_none nobody r (inr (inr h)) = let none = own_not me a.1 r (new_own r h) in omega (arith, none)
@@ -106,19 +106,19 @@ module _ (c : Configuration) (kept : KeptIn c) (m : Message) (a : Actor × ℕ) 
   no_total (j ∷ js) = omega (arith, no_total js)
 
   passed_on : (r : Reply) → m.reply ≡ r → farther e.joins ≤ passes e.answer
-  passed_on Nobody same = omega (arith, no_total e.joins, total_less (λ j. IsOwedWell me m.reply a.1 e.serial j.reply) (λ j. far j.reply) (λ j. 0) e.joins order.joins (λ j w. well_none same j.reply w))
+  passed_on Nobody same = omega (arith, no_total e.joins, total_less (λ j. IsAllowedReply me m.reply a.1 e.serial j.reply) (λ j. far j.reply) (λ j. 0) e.joins order.joins (λ j w. well_none same j.reply w))
   passed_on (Tok o n) same = by (order.passed (λ nobody. let z : Tok o n ≡ Nobody = sym same ∙ nobody in absurd cc))
     where
-      by : f.owed (address m.reply) e.messages e.joins ≤ passes e.answer → farther e.joins ≤ passes e.answer
-      by l = omega (arith, l, total_less (λ j. IsOwedWell me m.reply a.1 e.serial j.reply) (λ j. far j.reply) (λ j. owes (address m.reply) j.reply) e.joins order.joins (λ j w. well_owes j.reply w))
+      by : f.times_owed_by (reply_key m.reply) e.messages e.joins ≤ passes e.answer → farther e.joins ≤ passes e.answer
+      by l = omega (arith, l, total_less (λ j. IsAllowedReply me m.reply a.1 e.serial j.reply) (λ j. far j.reply) (λ j. owes (reply_key m.reply) j.reply) e.joins order.joins (λ j w. well_owes j.reply w))
   passed_on (Place o n i) same = by (order.passed (λ nobody. let z : Place o n i ≡ Nobody = sym same ∙ nobody in absurd cc))
     where
-      by : f.owed (address m.reply) e.messages e.joins ≤ passes e.answer → farther e.joins ≤ passes e.answer
-      by l = omega (arith, l, total_less (λ j. IsOwedWell me m.reply a.1 e.serial j.reply) (λ j. far j.reply) (λ j. owes (address m.reply) j.reply) e.joins order.joins (λ j w. well_owes j.reply w))
+      by : f.times_owed_by (reply_key m.reply) e.messages e.joins ≤ passes e.answer → farther e.joins ≤ passes e.answer
+      by l = omega (arith, l, total_less (λ j. IsAllowedReply me m.reply a.1 e.serial j.reply) (λ j. far j.reply) (λ j. owes (reply_key m.reply) j.reply) e.joins order.joins (λ j w. well_owes j.reply w))
   passed_on (Outside n) same = by (order.passed (λ nobody. let z : Outside n ≡ Nobody = sym same ∙ nobody in absurd cc))
     where
-      by : f.owed (address m.reply) e.messages e.joins ≤ passes e.answer → farther e.joins ≤ passes e.answer
-      by l = omega (arith, l, total_less (λ j. IsOwedWell me m.reply a.1 e.serial j.reply) (λ j. far j.reply) (λ j. owes (address m.reply) j.reply) e.joins order.joins (λ j w. well_owes j.reply w))
+      by : f.times_owed_by (reply_key m.reply) e.messages e.joins ≤ passes e.answer → farther e.joins ≤ passes e.answer
+      by l = omega (arith, l, total_less (λ j. IsAllowedReply me m.reply a.1 e.serial j.reply) (λ j. far j.reply) (λ j. owes (reply_key m.reply) j.reply) e.joins order.joins (λ j w. well_owes j.reply w))
 
   -- ---- the one open join that owes no own reply
 
@@ -161,11 +161,11 @@ module _ (c : Configuration) (kept : KeptIn c) (m : Message) (a : Actor × ℕ) 
       by true = omega arith
       by false = omega arith
 
-  arrays_far : (js : List Join) → total (λ (g : Given). far g.0) (arrays js) ≡ full_far js
+  arrays_far : (js : List Join) → total (λ (g : DueReply). far g.0) (full_join_replies js) ≡ full_far js
   arrays_far [] = refl
-  arrays_far (j ∷ js) = omega (arith, total-append (λ (g : Given). far g.0) (array_of j) (arrays js), arrays_far js, by (is_full j))
+  arrays_far (j ∷ js) = omega (arith, total-append (λ (g : DueReply). far g.0) (full_join_reply j) (full_join_replies js), arrays_far js, by (is_full j))
     where
-      by : (b : Bool) → total (λ (g : Given). far g.0) (cond b ((j.reply, collected j) ∷ []) []) ≡ cond b (far j.reply) 0
+      by : (b : Bool) → total (λ (g : DueReply). far g.0) (cond b ((j.reply, join_value j) ∷ []) []) ≡ cond b (far j.reply) 0
       by true = omega arith
       by false = refl
 
@@ -179,15 +179,15 @@ module _ (c : Configuration) (kept : KeptIn c) (m : Message) (a : Actor × ℕ) 
       by false false e rest z = let one : far j.reply ≡ 1 = ap (λ b. if b then 0 else 1) e in absurd (omega (arith, one, z))
 
   abbrev after : Configuration
-  after = installed e a.0 c
+  after = with_effects e a.0 c
 
-  abbrev special : Words
+  abbrev special : TableKey
   special = made_key me (choose e.joins)
 
-  abbrev AnyHere : Words → Reply → Type 0
+  abbrev AnyHere : TableKey → Reply → Type 0
   AnyHere = Any me a.1 special
 
-  abbrev OwnHere : Words → Reply → Type 0
+  abbrev OwnHere : TableKey → Reply → Type 0
   OwnHere = Own me a.1 special
 
   own_after : farther e.joins ≤ 1 → OwnIn me a.1 special after.waiting
@@ -201,7 +201,7 @@ module _ (c : Configuration) (kept : KeptIn c) (m : Message) (a : Actor × ℕ) 
       new j (inl o) = record { at = λ n same low. inl o }
       new j (inr n) = record { at = λ k same low. inr (ap (λ z. z ∷ name_key me) n) }
 
-  answered_far : (y : Answer) → total (λ (g : Given). far g.0) (answered y m.reply) + passes y ≤ 1
+  answered_far : (y : Answer) → total (λ (g : DueReply). far g.0) (answer_replies y m.reply) + passes y ≤ 1
   answered_far (answer.Value v) = omega (arith, foreign_most me a.1 m.reply)
   answered_far answer.Passed = omega arith
 
@@ -214,17 +214,17 @@ module _ (c : Configuration) (kept : KeptIn c) (m : Message) (a : Actor × ℕ) 
       ap (λ n. one_if (fm.contains_key after.waiting.joins (made_key me n))) (none_chosen e.joins z)
       ∙ closed_at after (kept_installed c kept m a fresh e sizes at actor owed order fits) me e.serial (omega (arith, after_me c kept m a fresh e sizes at actor owed order fits))
 
-  pub few_given : length (told_after (step_gives e m.reply) after.waiting) ≤ 1
+  pub few_given : length (settle_all_answers (step_replies e m.reply) after.waiting) ≤ 1
   few_given =
       let on = passed_on m.reply refl in
       let one : farther e.joins ≤ 1 = omega (arith, on, answered_far e.answer) in
-      let told = few_answers me a.1 special (most (step_gives e m.reply) after.waiting) (step_gives e m.reply) after.waiting (own_after one) in
-      let parts = total-append (λ (g : Given). far g.0) (arrays e.joins) (answered e.answer m.reply) in
+      let told = few_answers me a.1 special (settle_bound (step_replies e m.reply) after.waiting) (step_replies e m.reply) after.waiting (own_after one) in
+      let parts = total-append (λ (g : DueReply). far g.0) (full_join_replies e.joins) (answer_replies e.answer m.reply) in
       by (open_far e.joins) refl on told parts
     where
       by : (n : ℕ) → open_far e.joins ≡ n → farther e.joins ≤ passes e.answer →
-          length (told_after (step_gives e m.reply) after.waiting) ≤ total (λ (g : Given). far g.0) (step_gives e m.reply) + one_if (fm.contains_key after.waiting.joins special) →
-          total (λ (g : Given). far g.0) (arrays e.joins ++ answered e.answer m.reply) ≡ total (λ (g : Given). far g.0) (arrays e.joins) + total (λ (g : Given). far g.0) (answered e.answer m.reply) →
-          length (told_after (step_gives e m.reply) after.waiting) ≤ 1
+          length (settle_all_answers (step_replies e m.reply) after.waiting) ≤ total (λ (g : DueReply). far g.0) (step_replies e m.reply) + one_if (fm.contains_key after.waiting.joins special) →
+          total (λ (g : DueReply). far g.0) (full_join_replies e.joins ++ answer_replies e.answer m.reply) ≡ total (λ (g : DueReply). far g.0) (full_join_replies e.joins) + total (λ (g : DueReply). far g.0) (answer_replies e.answer m.reply) →
+          length (settle_all_answers (step_replies e m.reply) after.waiting) ≤ 1
       by zero z on told parts = omega (arith, told, parts, none_open z, arrays_far e.joins, both_far e.joins, on, answered_far e.answer)
       by (suc n) z on told parts = omega (arith, told, parts, z, opens_most (fm.contains_key after.waiting.joins special), arrays_far e.joins, both_far e.joins, on, answered_far e.answer)

@@ -29,7 +29,7 @@ use Rattle.sal_handler.specs.declared.turn.Began.{Began}
 use Rattle.sal_handler.specs.declared.turn.Began.TheVariants as began
 use Rattle.sal_handler.specs.Calls.{Meaning}
 use Rattle.sal_source.specs.declared.state.Setup.{Setup}
-use Rattle.sal_source.specs.Table.{Words, words_cmp, Table, table_of}
+use Rattle.sal_source.specs.Table.{TableKey, key_cmp, Table, table_of}
 use Rattle.sal_source.specs.Keys.{name_key, message_key, actor_key}
 
 -- What replies are given to: the pending messages by maker and number, and the open joins by owner and
@@ -43,7 +43,7 @@ pub record Waiting : Type 0 where
 -- outside; and the number of the last post, which is 0 before the first.
 pub record Configuration : Type 0 where
   pub actors : Table (Actor × ℕ)
-  pub given : fs.FinSet words_cmp
+  pub given : fs.FinSet key_cmp
   pub creations : Table (Name × Creation)
   pub waiting : Waiting
   pub output : List (List ℕ)
@@ -59,37 +59,37 @@ pub record End : Type 0 where
 -- ---- their codes, so that a type of the program can stand for them
 
 -- the code of keys and texts
-abbrev pub words_code : Coded Words
-words_code = coded_list coded_ℕ
+abbrev pub key_code : Coded TableKey
+key_code = coded_list coded_ℕ
 
 -- the code of the open joins with their owners
 abbrev pub joins_code : Coded (Table (Name × Join))
-joins_code = fm.code words_code (coded× name_row.coded join_row.coded)
+joins_code = fm.code key_code (coded× name_row.coded join_row.coded)
 
 -- the code of what waits
 abbrev pub waiting_code : Coded Waiting
 waiting_code =
     code_by
     (Table Message × Table (Name × Join))
-    (coded× (fm.code words_code message_row.coded) joins_code)
+    (coded× (fm.code key_code message_row.coded) joins_code)
     (λ w. (w.messages, w.joins))
     (λ p. record { messages = p.0; joins = p.1 })
     (λ _. refl)
 
 -- the code of the actors with their next numbers
 abbrev pub actors_code : Coded (Table (Actor × ℕ))
-actors_code = fm.code words_code (coded× actor_row.coded coded_ℕ)
+actors_code = fm.code key_code (coded× actor_row.coded coded_ℕ)
 
 -- the code of the pending creations with their makers
 abbrev pub creations_code : Coded (Table (Name × Creation))
-creations_code = fm.code words_code (coded× name_row.coded creation_row.coded)
+creations_code = fm.code key_code (coded× name_row.coded creation_row.coded)
 
 -- the code of configurations
 abbrev pub configuration_code : Coded Configuration
 configuration_code =
     code_by
-    (Table (Actor × ℕ) × (fs.FinSet words_cmp × (Table (Name × Creation) × (Waiting × (List (List ℕ) × (List Fault × (List (ℕ × Value) × ℕ)))))))
-    (coded× actors_code (coded× (fs.code words_code) (coded× creations_code (coded× waiting_code (coded× (coded_list words_code) (coded× (coded_list fault_row.coded) (coded× (coded_list (coded× coded_ℕ value_row.coded)) coded_ℕ)))))))
+    (Table (Actor × ℕ) × (fs.FinSet key_cmp × (Table (Name × Creation) × (Waiting × (List (List ℕ) × (List Fault × (List (ℕ × Value) × ℕ)))))))
+    (coded× actors_code (coded× (fs.code key_code) (coded× creations_code (coded× waiting_code (coded× (coded_list key_code) (coded× (coded_list fault_row.coded) (coded× (coded_list (coded× coded_ℕ value_row.coded)) coded_ℕ)))))))
     (λ c. (c.actors, (c.given, (c.creations, (c.waiting, (c.output, (c.faults, (c.answers, c.posted))))))))
     (λ p. record { actors = p.0; given = p.1.0; creations = p.1.1.0; waiting = p.1.1.1.0; output = p.1.1.1.1.0; faults = p.1.1.1.1.1.0; answers = p.1.1.1.1.1.1.0; posted = p.1.1.1.1.1.1.1 })
     (λ _. refl)
@@ -129,8 +129,8 @@ act_message words behavior handler = record {
 }
 
 -- the start actor stands, its name is given, and `act` is pending; or there is only the fault of the start
-abbrev pub first_of : List Value → Began → Configuration
-first_of words (began.Actor behavior handler fields) = record {
+abbrev pub first_by : List Value → Began → Configuration
+first_by words (began.Actor behavior handler fields) = record {
   actors = table_of actor_key (start_actor behavior fields ∷ []);
   given = fs.from_list (name_key start_name ∷ []);
   creations = fm.empty;
@@ -140,7 +140,7 @@ first_of words (began.Actor behavior handler fields) = record {
   answers = [];
   posted = 0;
 }
-first_of words (began.Trap kind) = record {
+first_by words (began.Trap kind) = record {
   actors = fm.empty;
   given = fs.empty;
   creations = fm.empty;
@@ -152,5 +152,5 @@ first_of words (began.Trap kind) = record {
 }
 
 -- the first configuration: how the program begins, with the words of this setup
-abbrev pub first : Meaning → Setup → Configuration
-first p setup = first_of setup.words p.begun
+abbrev pub first_configuration : Meaning → Setup → Configuration
+first_configuration p setup = first_by setup.words p.begin

@@ -6,28 +6,28 @@ use Rattle.sal_mail.specs.declared.message.Message.{Message}
 use Rattle.sal_mail.specs.declared.message.Join.{Join}
 use Rattle.sal_mail.specs.declared.effects.Actor.{Actor}
 use Rattle.sal_mail.specs.declared.effects.Creation.{Creation}
-use Rattle.sal_source.specs.Table.{Words}
+use Rattle.sal_source.specs.Table.{TableKey}
 
 -- the key of a name, by which names are told apart
-abbrev pub name_key : Name → Words
+abbrev pub name_key : Name → TableKey
 name_key = key
 
 -- what an actor made is told by its number and its maker
-abbrev pub made_key : Name → ℕ → Words
+abbrev pub made_key : Name → ℕ → TableKey
 made_key maker serial = serial ∷ name_key maker
 
 -- the key of a message: its number and its maker
-abbrev pub message_key : Message → Words
+abbrev pub message_key : Message → TableKey
 message_key m = made_key m.maker m.serial
 
 -- a join with its owner
-abbrev pub join_key : Name × Join → Words
+abbrev pub join_key : Name × Join → TableKey
 join_key j = made_key j.0 j.1.number
 
 -- a creation with its maker
-abbrev pub creation_key : Name × Creation → Words
+abbrev pub creation_key : Name × Creation → TableKey
 creation_key c = made_key c.0 c.1.serial
 
 -- an actor with its next number
-abbrev pub actor_key : Actor × ℕ → Words
+abbrev pub actor_key : Actor × ℕ → TableKey
 actor_key a = name_key a.0.name

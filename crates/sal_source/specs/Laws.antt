@@ -2,18 +2,18 @@
 use Rattle.std.specs.Prelude.{◌≡◌, ◌≢◌, ℕ, ◌+◌, ◌≤◌, List, [], ◌∷◌}
 use Rattle.sal_mail.specs.declared.message.Reply.{Reply}
 use Rattle.sal_mail.specs.declared.message.Reply.TheVariants.{Nobody}
-use Rattle.sal_source.specs.Table.{Words, total, weigh, Same}
-use Rattle.sal_mail.specs.Address.{address, owes}
+use Rattle.sal_source.specs.Table.{TableKey, total, sum_values, HasSameItems}
+use Rattle.sal_mail.specs.ReplyKeys.{reply_key, owes}
 use Rattle.sal_source.specs.Configuration.{Waiting, Configuration}
-use Rattle.sal_source.specs.Give.{Given, give}
+use Rattle.sal_source.specs.Give.{DueReply, give}
 
 -- how often the address is owed: among the replies that are to be given, the pending messages and the open joins
-abbrev pub owed : Words → List Given → Waiting → ℕ
-owed a gs w = total (λ g. owes a g.0) gs + weigh (λ m. owes a m.reply) w.messages + weigh (λ j. owes a j.1.reply) w.joins
+abbrev pub times_owed : TableKey → List DueReply → Waiting → ℕ
+times_owed a gs w = total (λ g. owes a g.0) gs + sum_values (λ m. owes a m.reply) w.messages + sum_values (λ j. owes a j.1.reply) w.joins
 
 -- each address but `Nobody` is owed at most once
-abbrev pub IsOwedOnce : List Given → Waiting → Type 0
-IsOwedOnce gs w = (r : Reply) → r ≢ Nobody → owed (address r) gs w ≤ 1
+abbrev pub IsOwedOnce : List DueReply → Waiting → Type 0
+IsOwedOnce gs w = (r : Reply) → r ≢ Nobody → times_owed (reply_key r) gs w ≤ 1
 
 -- the configuration without the answers that were told
 abbrev pub without_answers : Configuration → Configuration
@@ -22,10 +22,10 @@ without_answers c = record c { answers = [] }
 -- One configuration but for the order of its answers.
 pub record IsSameButForOrder (c d : Configuration) : Type 0 where
   pub rest : without_answers c ≡ without_answers d
-  pub answers : Same c.answers d.answers
+  pub answers : HasSameItems c.answers d.answers
 
 -- Two of the replies that are to be given may be given in either order.
 abbrev pub RepliesCommute : Type 0
 RepliesCommute =
-    (g h : Given) (rest : List Given) (c : Configuration) → IsOwedOnce (g ∷ h ∷ rest) c.waiting
+    (g h : DueReply) (rest : List DueReply) (c : Configuration) → IsOwedOnce (g ∷ h ∷ rest) c.waiting
     → IsSameButForOrder (give g.0 g.1 (give h.0 h.1 c)) (give h.0 h.1 (give g.0 g.1 c))

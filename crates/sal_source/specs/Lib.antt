@@ -4,12 +4,8 @@ pub mod Configuration
 pub mod Give
 pub mod Posts
 pub mod Step
-pub mod Possible
+pub mod code
 pub mod Run
 pub mod Laws
 pub mod Once
 pub mod Prints
-pub mod Listed
-pub mod Mapped
-pub mod Changes
-pub mod Meeting

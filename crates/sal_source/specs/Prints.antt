@@ -3,7 +3,7 @@ use Rattle.std.specs.Prelude.{◌≡◌, ℕ, zero, suc, ◌+◌, ◌≤◌, Lis
 use Rattle.std.specs.Str.{bytes_eq}
 use Rattle.sal_value.specs.declared.name.Name.TheVariants.{Anon, Outside}
 use Rattle.sal_handler.specs.Fits.{meaning_of}
-use Rattle.sal_handler.specs.Listing.{stages_in}
+use Rattle.sal_handler.specs.code.Listing.{stages_in}
 use Rattle.sal_handler.specs.Prints.{Print, Outline, program_of, AreShort}
 use Rattle.sal_source.specs.declared.state.Setup.{Setup}
 use Rattle.sal_source.specs.declared.state.Step.{Step}

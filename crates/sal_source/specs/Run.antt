@@ -6,7 +6,7 @@ use Rattle.sal_source.specs.declared.state.Setup.{Setup}
 use Rattle.sal_source.specs.declared.state.Step.{Step}
 use Rattle.sal_source.specs.declared.state.PlayFault.{PlayFault}
 use Rattle.sal_source.specs.declared.state.PlayFault.TheVariants.{BadStep, Memory}
-use Rattle.sal_source.specs.Configuration.{Configuration, End, first}
+use Rattle.sal_source.specs.Configuration.{Configuration, End, first_configuration}
 use Rattle.sal_source.specs.Step.{step}
 use Rattle.sal_handler.specs.Fits.{meaning_of}
 
@@ -17,7 +17,7 @@ steps p setup c (s ∷ ss) = option_and_then (λ d. steps p setup d ss) (step p 
 
 -- a run, from the first configuration
 abbrev pub run : Meaning → Setup → List Step → Option Configuration
-run p setup ss = steps p setup (first p setup) ss
+run p setup ss = steps p setup (first_configuration p setup) ss
 
 -- of a program
 abbrev pub play : Program → Setup → List Step → Option Configuration

@@ -5,13 +5,13 @@ ghost use Rattle.std.specs.Option.{option_map};
 ghost use Rattle.std.specs.FinMap as fm;
 ghost use Rattle.sal_source.specs.Table.{write};
 ghost use Rattle.sal_source.specs.Keys.{name_key, actor_key};
-ghost use Rattle.sal_source.specs.Listed.{IsSorted};
-ghost use Rattle.sal_source.specs.Mapped.{actor_of, actors_in, put_back};
+ghost use Rattle.sal_source.specs.code.Lists.{IsSorted};
+ghost use Rattle.sal_source.specs.code.Maps.{actor_of, actors_in, put_back};
 ghost use Rattle.sal_source.specs.Step.{put_actors};
 
 use crate::actors::Actors;
 use sal_mail::Actor;
-use sal_value::{List, Name, NoMemory, Values, keys_tell_names};
+use sal_value::{List, Name, NoMemory, Values, keys_are_injective};
 use std::alloc::Global;
 use std::collections::BTreeMap;
 use std::marker::Model;
@@ -21,29 +21,29 @@ use std::marker::Model;
 pub struct ActorState {
     pub behavior: u16,
     pub fields: Values,
-    pub next: u64,
+    pub serial: u64,
 }
 
 /// The actor of this name and state, with its next number.
-fn held(name: Name, state: ActorState) -> (Actor, u64)
+fn actor_entry(name: Name, state: ActorState) -> (Actor, u64)
     ensures { result ≡ actor_of (name, state) }
 {
     let ActorState {
         behavior,
         fields,
-        next,
+        serial,
     } = state;
     let actor = Actor {
         name,
         behavior,
         fields,
     };
-    (actor, next)
+    (actor, serial)
 }
 
 /// The name and the state of the actor.
-fn parts(actor: Actor, next: u64) -> (Name, ActorState)
-    ensures { actor_of result ≡ (actor, next) }
+fn parts(actor: Actor, serial: u64) -> (Name, ActorState)
+    ensures { actor_of result ≡ (actor, serial) }
 {
     let Actor {
         name,
@@ -53,7 +53,7 @@ fn parts(actor: Actor, next: u64) -> (Name, ActorState)
     let state = ActorState {
         behavior,
         fields,
-        next,
+        serial,
     };
     (name, state)
 }
@@ -68,7 +68,7 @@ fn put(states: &mut States, name: Name, state: ActorState) -> Result<Option<Acto
     ensures err { OnErr result (actors_in states.new.entries ≡ actors_in states.old.entries) }
     ensures absent { OnErr result (fm.get (actors_in states.old.entries) (name_key name) ≡ None) }
 {
-    keys_tell_names();
+    keys_are_injective();
     match states.insert(name, state) {
         Ok(old) => Ok(old),
         Err(_) => Err(NoMemory),
@@ -113,13 +113,13 @@ fn add_all(states: &mut States, alloc: Global, more: List<Actor>) -> Result<(), 
 }
 
 /// The actors in a list in the order of their names.
-fn listed(states: States, alloc: Global) -> Result<List<(Actor, u64)>, NoMemory>
+fn into_actors(states: States, alloc: Global) -> Result<List<(Actor, u64)>, NoMemory>
     ensures items { IfOk result (λ items. items ≡ map actor_of states.entries) }
     ensures sorted { IfOk result (λ items. IsSorted actor_key items) }
 {
     let mut items = List::new(alloc);
     for (name, state) in states {
-        items.push(held(name, state))?;
+        items.push(actor_entry(name, state))?;
     }
     Ok(items)
 }
@@ -135,7 +135,7 @@ impl Model for ActorMap {
     ghost use Rattle.sal_mail.specs.declared.effects.Actor as spec;
     ghost use Rattle.sal_source.specs.Table.{Table};
     ghost use Rattle.sal_source.specs.Configuration.{actors_code};
-    ghost use Rattle.sal_source.specs.Mapped.{actors_in};
+    ghost use Rattle.sal_source.specs.code.Maps.{actors_in};
 
     ghost Value = { Table (spec.Actor × ℕ) };
 
@@ -179,17 +179,17 @@ impl ActorMap {
         requires { fm.contains_key self.old (actor_key actor) ≡ true }
         ensures { self.new ≡ write self.old (actor_key actor) (Some actor) }
     {
-        let (actor, next) = actor;
-        let (name, state) = parts(actor, next);
+        let (actor, serial) = actor;
+        let (name, state) = parts(actor, serial);
         // The name is there, so this takes no memory and can't fail.
         let _ = put(&mut self.states, name, state);
     }
 
     /// The actors in a list in the order of their names.
-    pub fn listed(self, alloc: Global) -> Result<Actors, NoMemory>
+    pub fn into_actors(self, alloc: Global) -> Result<Actors, NoMemory>
         ensures { IfOk result (λ actors. actors ≡ self) }
     {
-        let items = listed(self.states, alloc)?;
+        let items = into_actors(self.states, alloc)?;
         Ok(Actors::of_sorted(items))
     }
 }

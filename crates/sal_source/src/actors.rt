@@ -3,10 +3,10 @@
 ghost use Rattle.std.specs.Prelude.{◌≡◌, is_some};
 ghost use Rattle.std.specs.FinMap as fm;
 ghost use Rattle.sal_value.specs.declared.name.Name.TheVariants as names;
-ghost use Rattle.sal_source.specs.Table.{table_of, words_cmp};
+ghost use Rattle.sal_source.specs.Table.{table_of, key_cmp};
 ghost use Rattle.sal_source.specs.Keys.{name_key, actor_key};
-ghost use Rattle.sal_source.specs.Listed.{IsSorted, found};
-ghost use Rattle.sal_source.specs.Mapped.{sought_key};
+ghost use Rattle.sal_source.specs.code.Lists.{IsSorted, first_at_key};
+ghost use Rattle.sal_source.specs.code.Maps.{query_key};
 
 use sal_mail::Actor;
 use sal_value::{List, Name, Uan};
@@ -15,24 +15,24 @@ use std::marker::Model;
 
 /// The name that is looked for.
 #[derive(Clone, Copy)]
-enum Sought<'a> {
+enum NameQuery<'a> {
     Any(&'a Name),
     Universal(&'a Uan),
 }
 
-fn compare(actor: &(Actor, u64), sought: Sought<'_>) -> Ordering
-    ensures { result ≡ words_cmp (actor_key actor.now) (sought_key sought.entry) }
+fn compare(actor: &(Actor, u64), sought: NameQuery<'_>) -> Ordering
+    ensures { result ≡ key_cmp (actor_key actor.now) (query_key sought.entry) }
 {
     match sought {
-        Sought::Any(name) => actor.0.name.cmp(name),
-        Sought::Universal(universal) => actor.0.name.cmp_universal(universal),
+        NameQuery::Any(name) => actor.0.name.cmp(name),
+        NameQuery::Universal(universal) => actor.0.name.cmp_universal(universal),
     }
 }
 
 /// Whether there is an actor of this name, by halves.
-fn is_there(actors: &[(Actor, u64)], sought: Sought<'_>) -> bool
+fn is_there(actors: &[(Actor, u64)], sought: NameQuery<'_>) -> bool
     requires { IsSorted actor_key actors.now }
-    ensures { result ≡ is_some (found actor_key (sought_key sought.entry) actors.now) }
+    ensures { result ≡ is_some (first_at_key actor_key (query_key sought.entry) actors.now) }
 {
     let mut low = 0;
     let mut high = actors.len();
@@ -58,7 +58,7 @@ impl Model for Actors {
     ghost use Rattle.std.specs.Prelude.{ℕ};
     ghost use Rattle.sal_source.specs.Table.{Table, table_of};
     ghost use Rattle.sal_source.specs.Keys.{actor_key};
-    ghost use Rattle.sal_source.specs.Listed.{IsSorted};
+    ghost use Rattle.sal_source.specs.code.Lists.{IsSorted};
     ghost use Rattle.sal_source.specs.Configuration.{actors_code};
 
     ghost Value = { Table (spec.Actor × ℕ) };
@@ -86,8 +86,8 @@ impl Actors {
         &self.items
     }
 
-    fn has(&self, sought: Sought<'_>) -> bool
-        ensures { result ≡ fm.contains_key self.now (sought_key sought.entry) }
+    fn has(&self, sought: NameQuery<'_>) -> bool
+        ensures { result ≡ fm.contains_key self.now (query_key sought.entry) }
     {
         is_there(self.items.as_slice(), sought)
     }
@@ -95,13 +95,13 @@ impl Actors {
     pub fn contains(&self, name: &Name) -> bool
         ensures { result ≡ fm.contains_key self.now (name_key name.now) }
     {
-        self.has(Sought::Any(name))
+        self.has(NameQuery::Any(name))
     }
 
     /// Whether an actor has this universal name.
     pub fn has_universal(&self, universal: &Uan) -> bool
         ensures { result ≡ fm.contains_key self.now (name_key (names.Uan universal.now)) }
     {
-        self.has(Sought::Universal(universal))
+        self.has(NameQuery::Universal(universal))
     }
 }

@@ -5,8 +5,8 @@ ghost use Rattle.std.specs.Option.{option_copied};
 ghost use Rattle.std.specs.FinMap as fm;
 ghost use Rattle.sal_source.specs.Table.{write};
 ghost use Rattle.sal_source.specs.Keys.{creation_key, made_key};
-ghost use Rattle.sal_source.specs.Listed.{AnyOf};
-ghost use Rattle.sal_source.specs.Possible as possible;
+ghost use Rattle.sal_source.specs.code.Lists.{AnyOf};
+ghost use Rattle.sal_source.specs.code.Possible as possible;
 ghost use Rattle.std.specs.List.{list_any};
 ghost use Rattle.sal_source.specs.Step as step;
 
@@ -46,7 +46,7 @@ impl Model for Creations {
     ghost use Rattle.sal_value.specs.declared.name.Name as name;
     ghost use Rattle.sal_source.specs.Table.{Table, table_of};
     ghost use Rattle.sal_source.specs.Keys.{creation_key};
-    ghost use Rattle.sal_source.specs.Listed.{AreDistinct};
+    ghost use Rattle.sal_source.specs.code.Lists.{AreDistinct};
     ghost use Rattle.sal_source.specs.Configuration.{creations_code};
 
     ghost Value = { Table (name.Name × spec.Creation) };

@@ -2,7 +2,7 @@
 
 ghost use Rattle.std.specs.Prelude.{◌≡◌};
 ghost use Rattle.std.specs.List.{list_all, list_any};
-ghost use Rattle.sal_source.specs.Table.{keys_of, words_eq};
+ghost use Rattle.sal_source.specs.Table.{keys_of, key_eq};
 ghost use Rattle.sal_source.specs.Keys.{name_key};
 ghost use Rattle.sal_source.specs.Step as spec;
 
@@ -39,7 +39,7 @@ fn are_new(actors: &ActorMap, names: &[Name]) -> bool
 }
 
 fn is_among(name: &Name, names: &[Name]) -> bool
-    ensures { result ≡ list_any (λ m. words_eq (name_key name.now) (name_key m)) names.now }
+    ensures { result ≡ list_any (λ m. key_eq (name_key name.now) (name_key m)) names.now }
 {
     for other in names {
         if same_name(name, other) {

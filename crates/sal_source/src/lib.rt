@@ -28,7 +28,7 @@ pub use law::{
     steps_answer_once,
 };
 pub use player::play;
-pub use run::{Met, Run};
+pub use run::{Receiver, Run};
 pub use sal_handler::{Began, Outcome, Turn};
 pub use state::{PlayFault, Setup, Step};
 pub use trace::trace_of;

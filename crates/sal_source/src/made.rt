@@ -4,15 +4,15 @@ ghost use Rattle.std.specs.Prelude.{◌≡◌, ℕ, ◌<◌, length, None, Some,
 ghost use Rattle.std.specs.Option.{option_copied};
 ghost use Rattle.std.specs.FinMap as fm;
 ghost use Rattle.sal_value.specs.declared.name.Name.{Name};
-ghost use Rattle.sal_source.specs.Table.{words_eq, write, table_of};
+ghost use Rattle.sal_source.specs.Table.{key_eq, write, table_of};
 ghost use Rattle.sal_source.specs.Keys.{name_key, made_key};
-ghost use Rattle.sal_source.specs.Listed.{key_by, Finds, AreDistinct};
+ghost use Rattle.sal_source.specs.code.Lists.{key_by, Finds, AreDistinct};
 
 use sal_mail::{Creation, Message};
 use sal_value::{List, Name, NoMemory};
 
 pub fn same_name(a: &Name, b: &Name) -> bool
-    ensures { result ≡ words_eq (name_key a.now) (name_key b.now) }
+    ensures { result ≡ key_eq (name_key a.now) (name_key b.now) }
 {
     a == b
 }
@@ -59,7 +59,7 @@ impl Made for (Name, Creation) {
 }
 
 fn is_made_by<T: Made>(it: &T, maker: &Name, serial: u64) -> bool
-    ensures { result ≡ words_eq (made_key maker.now serial) (key_by T.made_by T.number it.now) }
+    ensures { result ≡ key_eq (made_key maker.now serial) (key_by T.made_by T.number it.now) }
 {
     it.serial() == serial && same_name(maker, it.maker())
 }

@@ -8,16 +8,16 @@ use sal_mail::Message;
 use sal_value::{List, Name, NoMemory, Value};
 use std::alloc::Global;
 
-fn resolved(
+fn resolve(
     alloc: Global,
-    owner: &Name,
+    maker: &Name,
     number: u64,
     value: &Value,
     message: Message,
 ) -> Result<Message, NoMemory>
-    ensures { IfOk result (λ m. m ≡ resolve owner.now number value.now message) }
+    ensures { IfOk result (λ m. m ≡ resolve maker.now number value.now message) }
 {
-    if same_name(owner, &message.maker) {
+    if same_name(maker, &message.maker) {
         message.with_reply(alloc, number, value)
     } else {
         Ok(message)
@@ -25,18 +25,18 @@ fn resolved(
 }
 
 /// Gives the reply with this number to those of its owner's messages that wait for it.
-pub fn all_resolved(
+pub fn resolve_all(
     alloc: Global,
-    owner: &Name,
+    maker: &Name,
     number: u64,
     value: &Value,
     messages: List<Message>,
 ) -> Result<List<Message>, NoMemory>
-    ensures { IfOk result (λ all. all ≡ map (resolve owner.now number value.now) messages) }
+    ensures { IfOk result (λ all. all ≡ map (resolve maker.now number value.now) messages) }
 {
     let mut all = List::new(alloc);
     for message in messages.into_vec() {
-        all.push(resolved(alloc, owner, number, value, message)?)?;
+        all.push(resolve(alloc, maker, number, value, message)?)?;
     }
     Ok(all)
 }

@@ -4,11 +4,11 @@ ghost use Rattle.std.specs.Prelude.{◌≡◌, Some, None, IfSome, IfOk, OnOk};
 ghost use Rattle.std.specs.FinMap as fm;
 ghost use Rattle.sal_source.specs.Table.{write};
 ghost use Rattle.sal_source.specs.Keys.{made_key, join_key};
-ghost use Rattle.sal_source.specs.Mapped.{join_of, join_words, joins_in};
+ghost use Rattle.sal_source.specs.code.Maps.{join_of, join_entry_key, joins_in};
 ghost use Rattle.sal_source.specs.Step.{put_join};
 
 use sal_mail::{Join, Reply};
-use sal_value::{CloneIn, List, Name, NoMemory, Value, keys_tell_names};
+use sal_value::{CloneIn, List, Name, NoMemory, Value, keys_are_injective};
 use std::alloc::Global;
 use std::collections::BTreeMap;
 use std::marker::Model;
@@ -27,7 +27,7 @@ type Joins = BTreeMap<(u64, Name), OpenJoin>;
 fn join_at(key: (u64, Name), rest: OpenJoin) -> (Name, Join)
     ensures { result ≡ join_of (key, rest) }
 {
-    let (number, owner) = key;
+    let (number, maker) = key;
     let OpenJoin {
         places,
         void,
@@ -39,21 +39,21 @@ fn join_at(key: (u64, Name), rest: OpenJoin) -> (Name, Join)
         void,
         reply,
     };
-    (owner, join)
+    (maker, join)
 }
 
 fn insert(joins: &mut Joins, key: (u64, Name), rest: OpenJoin) -> Result<(), NoMemory>
-    ensures { OnOk result (joins_in joins.new.entries ≡ write (joins_in joins.old.entries) (join_words key) (Some (join_of (key, rest)))) }
+    ensures { OnOk result (joins_in joins.new.entries ≡ write (joins_in joins.old.entries) (join_entry_key key) (Some (join_of (key, rest)))) }
 {
-    keys_tell_names();
+    keys_are_injective();
     joins.insert(key, rest)?;
     Ok(())
 }
 
 fn take(joins: &mut Joins, key: &(u64, Name)) -> Option<(Name, Join)>
-    ensures taken { result ≡ fm.get (joins_in joins.old.entries) (join_words key.now) }
-    ensures keyed { IfSome result (λ it. join_words key.now ≡ join_key it) }
-    ensures rest { joins_in joins.new.entries ≡ write (joins_in joins.old.entries) (join_words key.now) None }
+    ensures taken { result ≡ fm.get (joins_in joins.old.entries) (join_entry_key key.now) }
+    ensures keyed { IfSome result (λ it. join_entry_key key.now ≡ join_key it) }
+    ensures rest { joins_in joins.new.entries ≡ write (joins_in joins.old.entries) (join_entry_key key.now) None }
 {
     match joins.remove_entry(key) {
         Some((key, rest)) => Some(join_at(key, rest)),
@@ -98,7 +98,7 @@ impl Model for OpenJoins {
     ghost use Rattle.sal_mail.specs.declared.message.Join as spec;
     ghost use Rattle.sal_value.specs.declared.name.Name as name;
     ghost use Rattle.sal_source.specs.Table.{Table};
-    ghost use Rattle.sal_source.specs.Mapped.{joins_in};
+    ghost use Rattle.sal_source.specs.code.Maps.{joins_in};
     ghost use Rattle.sal_source.specs.Configuration.{joins_code};
 
     ghost Value = { Table (name.Name × spec.Join) };
@@ -131,17 +131,17 @@ impl OpenJoins {
     }
 
     /// Takes out the owner's join of this number.
-    pub fn take(&mut self, owner: Name, number: u64) -> Option<(Name, Join)>
-        ensures taken { result ≡ fm.get self.old (made_key owner number) }
-        ensures keyed { IfSome result (λ it. made_key owner number ≡ join_key it) }
-        ensures rest { self.new ≡ write self.old (made_key owner number) None }
+    pub fn take(&mut self, maker: Name, number: u64) -> Option<(Name, Join)>
+        ensures taken { result ≡ fm.get self.old (made_key maker number) }
+        ensures keyed { IfSome result (λ it. made_key maker number ≡ join_key it) }
+        ensures rest { self.new ≡ write self.old (made_key maker number) None }
     {
-        take(&mut self.joins, &(number, owner))
+        take(&mut self.joins, &(number, maker))
     }
 
     /// Opens the owner's join.
-    pub fn put(&mut self, owner: Name, join: Join) -> Result<(), NoMemory>
-        ensures { OnOk result (self.new ≡ put_join owner join self.old) }
+    pub fn put(&mut self, maker: Name, join: Join) -> Result<(), NoMemory>
+        ensures { OnOk result (self.new ≡ put_join maker join self.old) }
     {
         let Join {
             number,
@@ -154,6 +154,6 @@ impl OpenJoins {
             void,
             reply,
         };
-        insert(&mut self.joins, (number, owner), rest)
+        insert(&mut self.joins, (number, maker), rest)
     }
 }

@@ -7,12 +7,12 @@ ghost use Rattle.sal_handler.specs.Prints.{IsChainOfPrints};
 ghost use Rattle.sal_source.specs.Configuration as configuration;
 ghost use Rattle.sal_source.specs.Step as spec;
 ghost use Rattle.sal_source.specs.Run.{Plays};
-ghost use Rattle.sal_source.specs.Mapped.{actor_of};
-ghost use Rattle.sal_source.specs.Changes.{Takes};
+ghost use Rattle.sal_source.specs.code.Maps.{actor_of};
+ghost use Rattle.sal_source.specs.code.Changes.{Takes};
 
 use crate::actor_map::ActorState;
 use crate::config::Config;
-use crate::run::{Met, Run};
+use crate::run::{Receiver, Run};
 use crate::state::{PlayFault, Setup, Step};
 use sal_ast::Program;
 use sal_handler::{Outcome, Turn, begin_prints, fits_prints, handle_prints};
@@ -23,7 +23,7 @@ use std::alloc::Global;
 /// The run of no step.
 fn first(alloc: Global, program: &Program, setup: &Setup) -> Result<Run, NoMemory>
     requires form { IsChainOfPrints program.now }
-    ensures { IfOk result (λ c. c ≡ configuration.first (meaning_of program.now) setup.now) }
+    ensures { IfOk result (λ c. c ≡ configuration.first_configuration (meaning_of program.now) setup.now) }
 {
     let words = setup.words.clone_in(alloc)?;
     Run::start(alloc, begin_prints(alloc, program), words)
@@ -49,7 +49,7 @@ fn outcome_for(
         handler: message.handler,
         args,
         reply: &message.reply,
-        serial: state.next,
+        serial: state.serial,
         place: 0,
         fresh: 0,
     };
@@ -82,12 +82,12 @@ fn handle_step(
     requires form { IsChainOfPrints program.now }
     ensures { Takes (spec.handle_step (meaning_of program.now).outcome maker.now serial fresh.now run.old) run.old result run.new }
 {
-    match run.meets(maker, serial) {
-        Met::Nobody => Ok(false),
-        Met::NoHandler => run.no_handler(alloc, maker, serial, fresh),
-        Met::Handler(message, name, state) => {
+    match run.receiver(maker, serial) {
+        Receiver::Nobody => Ok(false),
+        Receiver::NoHandler => run.no_handler(alloc, maker, serial, fresh),
+        Receiver::Handler(message, name, state) => {
             let outcome = outcome_at(alloc, program, message, name, state, fresh)?;
-            run.handled(alloc, maker, serial, fresh, outcome)
+            run.apply_outcome(alloc, maker, serial, fresh, outcome)
         }
     }
 }

@@ -38,8 +38,8 @@ fn argument_text(alloc: Global, args: &[Piece]) -> Result<Text, NoMemory>
 }
 
 /// The text that a message to the output prints.
-pub fn printed(alloc: Global, message: &Message) -> Result<Text, NoMemory>
-    ensures { IfOk result (λ text. text ≡ spec.printed message.now) }
+pub fn message_text(alloc: Global, message: &Message) -> Result<Text, NoMemory>
+    ensures { IfOk result (λ text. text ≡ spec.message_text message.now) }
 {
     let mut text = argument_text(alloc, message.args.as_slice())?;
     if message.handler == PRINTLN {

@@ -4,14 +4,14 @@ ghost use Rattle.std.specs.Prelude.{◌≡◌, [], true, IfOk, IfSome, OnOk, OnE
 ghost use Rattle.std.specs.FinMap as fm;
 ghost use Rattle.sal_source.specs.Table.{keys_of};
 ghost use Rattle.sal_source.specs.Keys.{actor_key};
-ghost use Rattle.sal_source.specs.Configuration.{first_of, act_message};
+ghost use Rattle.sal_source.specs.Configuration.{first_by, act_message};
 ghost use Rattle.sal_source.specs.Give.{give};
 ghost use Rattle.sal_source.specs.Step as spec;
-ghost use Rattle.sal_source.specs.Changes.{Takes};
+ghost use Rattle.sal_source.specs.code.Changes.{Takes};
 ghost use Rattle.sal_handler.specs.declared.turn.Began.TheVariants as began;
 ghost use Rattle.sal_handler.specs.declared.turn.Outcome.TheVariants.{Done};
-ghost use Rattle.sal_source.specs.Mapped.{actor_of};
-ghost use Rattle.sal_source.specs.Meeting.{Meets, IsChange, Makes, After, Enters, committed, told, printed, bound, is_output};
+ghost use Rattle.sal_source.specs.code.Maps.{actor_of};
+ghost use Rattle.sal_source.specs.code.Handling.{IsReceiver, IsChange, MakesChange, AfterOutcome, Enters, with_change, with_text_and_answers, after_print, after_bind, is_output};
 
 use crate::actor_map::{ActorMap, ActorState};
 use crate::config::Config;
@@ -64,7 +64,7 @@ impl Model for Run {
 
 /// What a message meets that is to be handled.
 #[derive(Clone, Copy)]
-pub enum Met<'a> {
+pub enum Receiver<'a> {
     /// The message isn't pending or not ready, or there is no actor for it.
     Nobody,
     /// The actor doesn't understand it.
@@ -107,14 +107,14 @@ fn act_message(
 }
 
 /// The actor with other fields and another next number.
-fn changed(
+fn actor_with(
     alloc: Global,
     name: &Name,
     state: &ActorState,
     fields: Values,
-    next: u64,
+    serial: u64,
 ) -> Result<(Actor, u64), NoMemory>
-    ensures { IfOk result (λ it. it ≡ (record (actor_of (name.now, state.now)).0 { fields = fields }, next)) }
+    ensures { IfOk result (λ it. it ≡ (record (actor_of (name.now, state.now)).0 { fields = fields }, serial)) }
 {
     let name = name.clone_in(alloc)?;
     let behavior = state.behavior;
@@ -124,12 +124,12 @@ fn changed(
             behavior,
             fields,
         },
-        next,
+        serial,
     ))
 }
 
 fn is_migrate(message: &Message) -> bool
-    ensures { result ≡ spec.is_migrate message.now }
+    ensures { result ≡ spec.is_migrate_message message.now }
 {
     message.behavior == OUTPUT && message.handler == MIGRATE
 }
@@ -140,8 +140,12 @@ fn understands(name: &Name, state: &ActorState, message: &Message) -> bool
     message.behavior == state.behavior || is_migrate(message)
 }
 
-fn answered(alloc: Global, answer: Answer, reply: Reply) -> Result<List<(Reply, Value)>, NoMemory>
-    ensures { IfOk result (λ gives. gives ≡ spec.answered answer reply) }
+fn answer_replies(
+    alloc: Global,
+    answer: Answer,
+    reply: Reply,
+) -> Result<List<(Reply, Value)>, NoMemory>
+    ensures { IfOk result (λ gives. gives ≡ spec.answer_replies answer reply) }
 {
     let mut gives = List::new(alloc);
     if let Answer::Value(value) = answer {
@@ -151,19 +155,19 @@ fn answered(alloc: Global, answer: Answer, reply: Reply) -> Result<List<(Reply, 
 }
 
 /// The messages and joins of a handler wait, and its replies are given. The answers that they tell.
-fn enter(
+fn settle_effects(
     alloc: Global,
     waiting: &mut Waiting,
-    owner: &Name,
+    maker: &Name,
     messages: List<Message>,
     joins: List<Join>,
     answer: Answer,
     reply: Reply,
 ) -> Result<List<(u64, Value)>, NoMemory>
-    ensures { IfOk result (λ answers. Enters owner.now messages joins answer reply waiting.old waiting.new answers) }
+    ensures { IfOk result (λ answers. Enters maker.now messages joins answer reply waiting.old waiting.new answers) }
 {
-    let mut left = answered(alloc, answer, reply)?;
-    waiting.open_all(alloc, owner, joins, &mut left)?;
+    let mut left = answer_replies(alloc, answer, reply)?;
+    waiting.open_all(alloc, maker, joins, &mut left)?;
     waiting.put_messages(messages)?;
     let mut answers = List::new(alloc);
     waiting.settle(alloc, &mut answers, left)?;
@@ -178,7 +182,7 @@ fn target_and_reply(message: Message) -> (Target, Reply)
 }
 
 /// What the handler of this actor makes of the creations and of what waits.
-fn changed_by(
+fn change_of_effects(
     alloc: Global,
     me: &Name,
     state: &ActorState,
@@ -190,7 +194,7 @@ fn changed_by(
     ensures { IfOk result (λ change. IsChange effects reply (actor_of (me.now, state.now)) creations.now waiting change) }
 {
     let mut waiting = waiting;
-    let answers = enter(
+    let answers = settle_effects(
         alloc,
         &mut waiting,
         me,
@@ -202,7 +206,7 @@ fn changed_by(
     let mut creations = creations.copied(alloc)?;
     creations.put_all(alloc, me, effects.creations)?;
     Ok(Change {
-        actor: changed(alloc, me, state, effects.fields, effects.serial)?,
+        actor: actor_with(alloc, me, state, effects.fields, effects.serial)?,
         actors: effects.actors,
         creations,
         waiting,
@@ -229,14 +233,14 @@ fn bound_actor(alloc: Global, creation: &Creation) -> Result<Actor, NoMemory>
     })
 }
 
-fn started(
+fn start_with_actor(
     alloc: Global,
     words: Values,
     behavior: u16,
     handler: u16,
     fields: Values,
 ) -> Result<Run, NoMemory>
-    ensures { IfOk result (λ c. c ≡ first_of words (began.Actor behavior handler fields)) }
+    ensures { IfOk result (λ c. c ≡ first_by words (began.Actor behavior handler fields)) }
 {
     let message = act_message(alloc, words, behavior, handler)?;
     let name = Name::Anon(0, 0);
@@ -261,8 +265,8 @@ fn started(
     })
 }
 
-fn failed(alloc: Global, kind: Trap) -> Result<Run, NoMemory>
-    ensures { IfOk result (λ c. c ≡ first_of [] (began.Trap kind)) }
+fn start_with_fault(alloc: Global, kind: Trap) -> Result<Run, NoMemory>
+    ensures { IfOk result (λ c. c ≡ first_by [] (began.Trap kind)) }
 {
     let maker = Name::Outside(0);
     let mut faults = List::new(alloc);
@@ -285,15 +289,15 @@ fn failed(alloc: Global, kind: Trap) -> Result<Run, NoMemory>
 impl Run {
     /// The run of no step of a program that begins so, with these words.
     pub fn start(alloc: Global, began: Began, words: Values) -> Result<Run, NoMemory>
-        ensures { IfOk result (λ c. c ≡ first_of words began) }
+        ensures { IfOk result (λ c. c ≡ first_by words began) }
     {
         match began {
             Began::Actor {
                 behavior,
                 handler,
                 fields,
-            } => started(alloc, words, behavior, handler, fields),
-            Began::Trap(kind) => failed(alloc, kind),
+            } => start_with_actor(alloc, words, behavior, handler, fields),
+            Began::Trap(kind) => start_with_fault(alloc, kind),
         }
     }
 
@@ -312,7 +316,7 @@ impl Run {
         } = self;
         Ok(Config {
             authorities,
-            actors: actors.listed(alloc)?,
+            actors: actors.into_actors(alloc)?,
             creations,
             waiting,
             output,
@@ -323,25 +327,25 @@ impl Run {
     }
 
     /// What the pending message with this maker and number meets.
-    pub fn meets(&self, maker: &Name, serial: u64) -> Met<'_>
-        ensures { Meets maker.now serial self.now result }
+    pub fn receiver(&self, maker: &Name, serial: u64) -> Receiver<'_>
+        ensures { IsReceiver maker.now serial self.now result }
     {
         let Some(message) = self.waiting.message(maker, serial) else {
-            return Met::Nobody;
+            return Receiver::Nobody;
         };
         if !message.is_ready() {
-            return Met::Nobody;
+            return Receiver::Nobody;
         }
         let Target::Actor(name) = &message.target else {
-            return Met::Nobody;
+            return Receiver::Nobody;
         };
         let Some((name, state)) = self.actors.get(name) else {
-            return Met::Nobody;
+            return Receiver::Nobody;
         };
         if understands(name, state, message) {
-            Met::Handler(message, name, state)
+            Receiver::Handler(message, name, state)
         } else {
-            Met::NoHandler
+            Receiver::NoHandler
         }
     }
 
@@ -353,7 +357,7 @@ impl Run {
         fresh: &[Name],
         kind: FaultKind,
     ) -> Result<bool, NoMemory>
-        ensures { Takes (spec.unnamed fresh.now (spec.add_fault kind maker.now serial (spec.drop_message maker.now serial self.old))) self.old result self.new }
+        ensures { Takes (spec.if_no_names fresh.now (spec.add_fault kind maker.now serial (spec.drop_message maker.now serial self.old))) self.old result self.new }
     {
         match fresh {
             [_, ..] => Ok(false),
@@ -378,19 +382,19 @@ impl Run {
         serial: u64,
         fresh: &[Name],
     ) -> Result<bool, NoMemory>
-        ensures { Takes (spec.unhandled maker.now serial fresh.now self.old) self.old result self.new }
+        ensures { Takes (spec.fault_no_handler maker.now serial fresh.now self.old) self.old result self.new }
     {
         self.fail(alloc, maker, serial, fresh, FaultKind::NoHandler)
     }
 
-    fn change(
+    fn change_of_message(
         &self,
         alloc: Global,
         maker: &Name,
         serial: u64,
         effects: Effects,
     ) -> Result<Option<Change>, NoMemory>
-        ensures makes { IfOk result (λ it. Makes maker.now serial effects self.now it) }
+        ensures makes { IfOk result (λ it. MakesChange maker.now serial effects self.now it) }
         ensures there { IfOk result (λ it. IfSome it (λ change. fm.contains_key self.now.actors (actor_key change.actor) ≡ true)) }
     {
         let mut waiting = self.waiting.copied(alloc)?;
@@ -404,13 +408,13 @@ impl Run {
         let Some((me, state)) = self.actors.get(&name) else {
             return Ok(None);
         };
-        let change = changed_by(alloc, me, state, reply, &self.creations, waiting, effects)?;
+        let change = change_of_effects(alloc, me, state, reply, &self.creations, waiting, effects)?;
         Ok(Some(change))
     }
 
     fn commit(&mut self, alloc: Global, change: Change) -> Result<(), NoMemory>
         requires { fm.contains_key self.old.actors (actor_key change.actor) ≡ true }
-        ensures ok { OnOk result (self.new ≡ committed change self.old) }
+        ensures ok { OnOk result (self.new ≡ with_change change self.old) }
         ensures err { OnErr result (self.new ≡ self.old) }
     {
         let Change {
@@ -446,12 +450,12 @@ impl Run {
         fresh: &[Name],
         effects: Effects,
     ) -> Result<bool, NoMemory>
-        ensures { After maker.now serial fresh.now (Done effects) self.old result self.new }
+        ensures { AfterOutcome maker.now serial fresh.now (Done effects) self.old result self.new }
     {
         if !self.fits(fresh, &effects) {
             return Ok(false);
         }
-        match self.change(alloc, maker, serial, effects)? {
+        match self.change_of_message(alloc, maker, serial, effects)? {
             Some(change) => {
                 self.commit(alloc, change)?;
                 Ok(true)
@@ -468,7 +472,7 @@ impl Run {
         fresh: &[Name],
         outcome: Outcome,
     ) -> Result<bool, NoMemory>
-        ensures { After maker.now serial fresh.now outcome self.old result self.new }
+        ensures { AfterOutcome maker.now serial fresh.now outcome self.old result self.new }
     {
         match outcome {
             Outcome::Done(effects) => self.done(alloc, maker, serial, fresh, effects),
@@ -478,7 +482,7 @@ impl Run {
 
     /// The step of a message whose handler has this outcome, with these names for new actors. False
     /// where the step isn't possible.
-    pub fn handled(
+    pub fn apply_outcome(
         &mut self,
         alloc: Global,
         maker: &Name,
@@ -488,10 +492,10 @@ impl Run {
     ) -> Result<bool, NoMemory>
         ensures { Takes (spec.handle_step (λ _. outcome) maker.now serial fresh.now self.old) self.old result self.new }
     {
-        match self.meets(maker, serial) {
-            Met::Nobody => Ok(false),
-            Met::NoHandler => self.no_handler(alloc, maker, serial, fresh),
-            Met::Handler(..) => self.after(alloc, maker, serial, fresh, outcome),
+        match self.receiver(maker, serial) {
+            Receiver::Nobody => Ok(false),
+            Receiver::NoHandler => self.no_handler(alloc, maker, serial, fresh),
+            Receiver::Handler(..) => self.after(alloc, maker, serial, fresh, outcome),
         }
     }
 
@@ -501,7 +505,7 @@ impl Run {
         waiting: Waiting,
         answers: List<(u64, Value)>,
     ) -> Result<(), NoMemory>
-        ensures ok { OnOk result (self.new ≡ told text waiting answers self.old) }
+        ensures ok { OnOk result (self.new ≡ with_text_and_answers text waiting answers self.old) }
         ensures err { OnErr result (self.new ≡ self.old) }
     {
         let told = self.output.len();
@@ -520,10 +524,10 @@ impl Run {
         waiting: Waiting,
         message: Message,
     ) -> Result<(), NoMemory>
-        ensures ok { OnOk result (self.new ≡ printed message waiting self.old) }
+        ensures ok { OnOk result (self.new ≡ after_print message waiting self.old) }
         ensures err { OnErr result (self.new ≡ self.old) }
     {
-        let text = printing::printed(alloc, &message)?;
+        let text = printing::message_text(alloc, &message)?;
         let (_, reply) = target_and_reply(message);
         let mut left = List::new(alloc);
         left.push((reply, Value::Null))?;
@@ -570,7 +574,7 @@ impl Run {
         maker: &Name,
         serial: u64,
     ) -> Result<(), NoMemory>
-        ensures ok { OnOk result (self.new ≡ bound actor maker.now serial self.old) }
+        ensures ok { OnOk result (self.new ≡ after_bind actor maker.now serial self.old) }
         ensures err { OnErr result (self.new ≡ self.old) }
     {
         let mut actors = List::new(alloc);

@@ -5,7 +5,7 @@ use sal_value::{Authority, List, Name, NoMemory, Text, Uan, Value};
 use std::alloc::Global;
 use std::test::Fail;
 
-fn started(alloc: Global) -> Result<Run, NoMemory> {
+fn start_with_actor(alloc: Global) -> Result<Run, NoMemory> {
     let began = Began::Actor {
         behavior: 0,
         handler: 0,
@@ -35,7 +35,7 @@ fn leaving(
 }
 
 fn act(alloc: Global, run: &mut Run, outcome: Outcome) -> Result<bool, NoMemory> {
-    run.handled(alloc, &Name::Outside(0), 0, &[], outcome)
+    run.apply_outcome(alloc, &Name::Outside(0), 0, &[], outcome)
 }
 
 fn fault(config: &Config) -> Option<FaultKind> {
@@ -102,12 +102,12 @@ fn replies(alloc: Global, run: &mut Run, serial: u64, value: i32) -> Result<bool
         List::new(alloc),
         List::new(alloc),
     );
-    run.handled(alloc, &Name::Anon(0, 0), serial, &[], outcome)
+    run.apply_outcome(alloc, &Name::Anon(0, 0), serial, &[], outcome)
 }
 
 /// The run after three replies, of which one comes to a full place.
 fn three_replies(alloc: Global) -> Result<Run, NoMemory> {
-    let mut run = started(alloc)?;
+    let mut run = start_with_actor(alloc)?;
     opens_join(alloc, &mut run)?;
     for (serial, value) in [(1, 3), (2, 9), (3, 2)] {
         replies(alloc, &mut run, serial, value)?;
@@ -164,7 +164,7 @@ fn gives_three(alloc: Global, run: &mut Run) -> Result<(), NoMemory> {
 
 /// The run after three replies and one more for place 2, whose join has resolved.
 fn given_again(alloc: Global) -> Result<Run, NoMemory> {
-    let mut run = started(alloc)?;
+    let mut run = start_with_actor(alloc)?;
     opens_join(alloc, &mut run)?;
     gives_three(alloc, &mut run)?;
     gives(alloc, &mut run, 2, 9)?;
@@ -182,7 +182,7 @@ fn a_reply_to_a_resolved_join_changes_nothing(rt: HostRuntime) -> Result<(), Fai
 
 #[test]
 fn a_trap_leaves_its_fault_alone(rt: HostRuntime) -> Result<(), Fail> {
-    let mut run = started(rt.alloc())?;
+    let mut run = start_with_actor(rt.alloc())?;
     assert!(rt; act(rt.alloc(), &mut run, Outcome::Trap(Trap::ZeroDivisor))?);
     let config = run.config(rt.alloc(), List::new(rt.alloc()))?;
     assert_eq!(rt; fault(&config), Some(FaultKind::Trap(Trap::ZeroDivisor)));
@@ -205,7 +205,7 @@ fn sends_to_other(alloc: Global, run: &mut Run) -> Result<bool, NoMemory> {
 
 #[test]
 fn a_message_of_another_behavior_meets_no_handler(rt: HostRuntime) -> Result<(), Fail> {
-    let mut run = started(rt.alloc())?;
+    let mut run = start_with_actor(rt.alloc())?;
     assert!(rt; sends_to_other(rt.alloc(), &mut run)?);
     assert!(rt; replies(rt.alloc(), &mut run, 1, 1)?);
     let config = run.config(rt.alloc(), List::new(rt.alloc()))?;
@@ -268,7 +268,7 @@ fn is_bound_once(alloc: Global, run: &mut Run) -> Result<bool, NoMemory> {
 
 #[test]
 fn a_name_is_bound_once(rt: HostRuntime) -> Result<(), Fail> {
-    let mut run = started(rt.alloc())?;
+    let mut run = start_with_actor(rt.alloc())?;
     assert!(rt; creates_twice(rt.alloc(), &mut run)?);
     assert!(rt; is_bound_once(rt.alloc(), &mut run)?);
     assert!(rt; run.refuse(rt.alloc(), &Name::Anon(0, 0), 2)?);
@@ -285,7 +285,7 @@ fn posts(alloc: Global, run: &mut Run, number: u64) -> Result<bool, NoMemory> {
 
 #[test]
 fn posts_have_rising_numbers(rt: HostRuntime) -> Result<(), Fail> {
-    let mut run = started(rt.alloc())?;
+    let mut run = start_with_actor(rt.alloc())?;
     assert!(rt; !posts(rt.alloc(), &mut run, 0)?);
     assert!(rt; posts(rt.alloc(), &mut run, 1)?);
     assert!(rt; !posts(rt.alloc(), &mut run, 1)?);

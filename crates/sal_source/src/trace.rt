@@ -1,7 +1,7 @@
 //! The trace of a program that is one chain of prints.
 
 ghost use Rattle.std.specs.Prelude.{◌≡◌, length, IfOk};
-ghost use Rattle.sal_handler.specs.Listing.{stages_in};
+ghost use Rattle.sal_handler.specs.code.Listing.{stages_in};
 ghost use Rattle.sal_source.specs.Prints.{trace};
 
 use crate::state::Step;

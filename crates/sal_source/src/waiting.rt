@@ -7,12 +7,12 @@ ghost use Rattle.sal_mail.specs.declared.message.Reply.TheVariants as reply;
 ghost use Rattle.sal_mail.specs.Message.{is_full};
 ghost use Rattle.sal_source.specs.Table.{write, table_map};
 ghost use Rattle.sal_source.specs.Keys.{made_key, message_key};
-ghost use Rattle.sal_source.specs.Listed.{AnyOf};
-ghost use Rattle.sal_source.specs.Possible as possible;
+ghost use Rattle.sal_source.specs.code.Lists.{AnyOf};
+ghost use Rattle.sal_source.specs.code.Possible as possible;
 ghost use Rattle.std.specs.List.{list_any};
 ghost use Rattle.sal_source.specs.Give as give;
 ghost use Rattle.sal_source.specs.Step as step;
-ghost use Rattle.sal_source.specs.Changes.{listed, GivesOne, GivesNext, Settles, Opens, OpensAll};
+ghost use Rattle.sal_source.specs.code.Changes.{option_list, GivesOne, GivesNext, Settles, Opens, OpensAll};
 
 use crate::actors::Actors;
 use crate::open_joins::OpenJoins;
@@ -23,8 +23,8 @@ use std::alloc::Global;
 use std::marker::Model;
 use std::mem;
 
-fn has_taker(to: &Target, actors: &Actors) -> bool
-    ensures { result ≡ possible.has_taker actors.now to.now }
+fn has_receiver(to: &Target, actors: &Actors) -> bool
+    ensures { result ≡ possible.has_receiver actors.now to.now }
 {
     match to {
         Target::Output => true,
@@ -35,7 +35,7 @@ fn has_taker(to: &Target, actors: &Actors) -> bool
 fn is_possible(message: &Message, actors: &Actors) -> bool
     ensures { result ≡ possible.is_possible actors.now message.now }
 {
-    message.is_ready() && has_taker(&message.target, actors)
+    message.is_ready() && has_receiver(&message.target, actors)
 }
 
 fn some_possible(messages: &[Message], actors: &Actors) -> bool
@@ -59,7 +59,7 @@ pub struct Waiting {
 impl Model for Waiting {
     ghost use Rattle.sal_source.specs.Table.{table_of};
     ghost use Rattle.sal_source.specs.Keys.{message_key};
-    ghost use Rattle.sal_source.specs.Listed.{AreDistinct};
+    ghost use Rattle.sal_source.specs.code.Lists.{AreDistinct};
     ghost use Rattle.sal_source.specs.Configuration as configuration;
 
     ghost Value = { configuration.Waiting };
@@ -137,26 +137,26 @@ impl Waiting {
         Ok(())
     }
 
-    fn put_join(&mut self, owner: Name, join: Join) -> Result<(), NoMemory>
-        ensures { OnOk result (self.new ≡ record self.old { joins = step.put_join owner join self.old.joins }) }
+    fn put_join(&mut self, maker: Name, join: Join) -> Result<(), NoMemory>
+        ensures { OnOk result (self.new ≡ record self.old { joins = step.put_join maker join self.old.joins }) }
     {
-        self.joins.put(owner, join)
+        self.joins.put(maker, join)
     }
 
     /// Opens the join, or lists its array where it is full.
     fn open(
         &mut self,
         alloc: Global,
-        owner: &Name,
+        maker: &Name,
         join: Join,
         left: &mut List<(Reply, Value)>,
     ) -> Result<(), NoMemory>
-        ensures { OnOk result (Opens owner.now join self.old self.new left.old left.new) }
+        ensures { OnOk result (Opens maker.now join self.old self.new left.old left.new) }
     {
         if join.is_full() {
             left.push(join.into_reply(alloc)?)
         } else {
-            self.put_join(owner.clone_in(alloc)?, join)
+            self.put_join(maker.clone_in(alloc)?, join)
         }
     }
 
@@ -164,15 +164,15 @@ impl Waiting {
     pub fn open_all(
         &mut self,
         alloc: Global,
-        owner: &Name,
+        maker: &Name,
         joins: List<Join>,
         left: &mut List<(Reply, Value)>,
     ) -> Result<(), NoMemory>
-        ensures { OnOk result (OpensAll owner.now joins self.old self.new left.old left.new) }
+        ensures { OnOk result (OpensAll maker.now joins self.old self.new left.old left.new) }
     {
         let mut more = joins;
         while let Some(join) = more.pop() {
-            self.open(alloc, owner, join, left)?;
+            self.open(alloc, maker, join, left)?;
         }
         Ok(())
     }
@@ -180,14 +180,14 @@ impl Waiting {
     fn resolve(
         &mut self,
         alloc: Global,
-        owner: &Name,
+        maker: &Name,
         number: u64,
         value: &Value,
     ) -> Result<(), NoMemory>
-        ensures { OnOk result (self.new ≡ record self.old { messages = table_map (give.resolve owner.now number value.now) self.old.messages }) }
+        ensures { OnOk result (self.new ≡ record self.old { messages = table_map (give.resolve maker.now number value.now) self.old.messages }) }
     {
         let old = mem::replace(&mut self.messages, List::new(alloc));
-        self.messages = messages::all_resolved(alloc, owner, number, value, old)?;
+        self.messages = messages::resolve_all(alloc, maker, number, value, old)?;
         Ok(())
     }
 
@@ -195,22 +195,22 @@ impl Waiting {
     fn fill(
         &mut self,
         alloc: Global,
-        owner: Name,
+        maker: Name,
         number: u64,
         at: u32,
         value: Value,
     ) -> Result<Option<(Reply, Value)>, NoMemory>
-        ensures waiting { OnOk result (self.new ≡ give.give_to (reply.Place owner number at) value self.old) }
-        ensures gives { IfOk result (λ more. listed more ≡ give.gives_on (reply.Place owner number at) value self.old) }
+        ensures waiting { OnOk result (self.new ≡ give.give_to (reply.Place maker number at) value self.old) }
+        ensures gives { IfOk result (λ more. option_list more ≡ give.replies_from (reply.Place maker number at) value self.old) }
     {
-        let Some((owner, mut join)) = self.joins.take(owner, number) else {
+        let Some((maker, mut join)) = self.joins.take(maker, number) else {
             return Ok(None);
         };
         join.fill(at, value);
         if join.is_full() {
             return Ok(Some(join.into_reply(alloc)?));
         }
-        self.put_join(owner, join)?;
+        self.put_join(maker, join)?;
         Ok(None)
     }
 
@@ -222,18 +222,18 @@ impl Waiting {
         reply: Reply,
         value: Value,
     ) -> Result<Option<(Reply, Value)>, NoMemory>
-        ensures { IfOk result (λ more. GivesOne (reply, value) self.old self.new answers.old answers.new (listed more)) }
+        ensures { IfOk result (λ more. GivesOne (reply, value) self.old self.new answers.old answers.new (option_list more)) }
     {
         if !value.legal() {
             return Ok(None);
         }
         match reply {
             Reply::Nobody => Ok(None),
-            Reply::Tok(owner, number) => {
-                self.resolve(alloc, &owner, number, &value)?;
+            Reply::Tok(maker, number) => {
+                self.resolve(alloc, &maker, number, &value)?;
                 Ok(None)
             }
-            Reply::Place(owner, join, at) => self.fill(alloc, owner, join, at, value),
+            Reply::Place(maker, join, at) => self.fill(alloc, maker, join, at, value),
             Reply::Outside(number) => {
                 answers.push((number, value))?;
                 Ok(None)

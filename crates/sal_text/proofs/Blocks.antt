@@ -2,7 +2,7 @@
 use Rattle.std.proofs.Common.{◌≡◌, ℕ, suc, ◌+◌, ◌<◌, Bool, true, false, ◌&&◌, nat_eq, cond, List, [], ◌∷◌, ◌++◌, length, drop, get_or, drop-cons, Option, Some, None, option_map, refl, ap, sym, ◌∙◌, add-one, arith}
 use Rattle.std.proofs.lemmas.Bool.{and_parts, or_from, or_parts, eqb-true}
 use Rattle.sal_text.specs.Tokens.{begins_slash, holds_end}
-use Rattle.sal_text.specs.Reading.{block_length}
+use Rattle.sal_text.specs.code.Scanning.{block_length}
 
 pub map_more : (o : Option ℕ) (i : ℕ) → option_map (λ n. n + i) (option_map (λ n. n + 1) o) ≡ option_map (λ n. n + (i + 1)) o
 map_more None i = refl

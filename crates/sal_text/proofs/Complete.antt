@@ -9,37 +9,37 @@ use Rattle.sal_ast.specs.declared.lexeme.Kind.TheVariants as kind
 use Rattle.sal_ast.specs.Lexemes.{is_letter, is_digit, is_name_byte, is_name, is_word, is_number, is_sign}
 use Rattle.sal_text.specs.declared.token.LexRule.{LexRule}
 use Rattle.sal_text.specs.declared.token.LexRule.TheVariants as rule
-use Rattle.sal_text.specs.declared.piece.Piece.{Piece}
-use Rattle.sal_text.specs.declared.piece.Piece.TheVariants as piece
+use Rattle.sal_text.specs.declared.piece.Scan.{Scan}
+use Rattle.sal_text.specs.declared.piece.Scan.TheVariants as piece
 use Rattle.sal_text.specs.Values.{bad_escape}
-use Rattle.sal_text.specs.Tokens.{is_blank, is_in_line, begins, is_digits, is_string, is_closed, is_form, is_blanks, IsLongest, begins_comment, IsToken, IsLine, IsBlock, holds_end, What, Blank, Line, Block, Of, Stands}
+use Rattle.sal_text.specs.Tokens.{is_blank, is_in_line, begins, is_digits, is_string, is_string_rest, is_form, is_blanks, IsLongest, begins_comment, IsToken, IsLine, IsBlock, holds_end, PartKind, Blank, Line, Block, Of, Stands}
 use Rattle.sal_text.specs.Refusals.{Violates, IsStrange, IsUnclosedString, IsBadNumber, IsUnclosedComment, IsBadString}
-use Rattle.sal_text.specs.Reading.{run_length, block_length, closed_length, short_sign, long_sign, short_length, sign_length, name_piece, number_piece, escapes_judged, string_judged, string_piece, line_piece, block_judged, block_piece, sign_piece, begins_line, begins_block, other_piece, piece_from}
+use Rattle.sal_text.specs.code.Scanning.{run_length, block_length, length_to_quote, short_sign, long_sign, short_length, sign_length, scan_name, scan_number, scan_escapes, scan_closed_string, scan_string, scan_line, scan_closed_block, scan_block, scan_sign, begins_line, begins_block, scan_other, scan_from}
 use Rattle.sal_text.proofs.Runs.{run_over}
 use Rattle.sal_text.proofs.Blocks.{block_over, block_never}
 use Rattle.sal_text.proofs.Closings.{closed_is, closed_over}
 use Rattle.sal_text.proofs.Forms.{word_name, identifier_parts, sign_one, sign_two, sign_more, sign_plain, letter_no_blank, digit_no_blank, digit_no_letter, longest_next, all_more}
 
 -- what is found at the front of a text, if it has a front
-abbrev pub front_piece : List ℕ → Piece
+abbrev pub front_piece : List ℕ → Scan
 front_piece [] = piece.Refused rule.L0 0
-front_piece (c ∷ cs) = piece_from c (c ∷ cs)
+front_piece (c ∷ cs) = scan_from c (c ∷ cs)
 
-abbrev pub piece_for : What → ℕ → Piece
+abbrev pub piece_for : PartKind → ℕ → Scan
 piece_for Blank n = piece.Between n
 piece_for Line n = piece.Between n
 piece_for Block n = piece.Between n
 piece_for (Of of) n = piece.Token of n
 
 route : (c : ℕ) (text : List ℕ) (b l d q : Bool) → is_blank c ≡ b → is_letter c ≡ l → is_digit c ≡ d → nat_eq c 34 ≡ q →
-    piece_from c text ≡ cond b (piece.Between 1) (cond l (name_piece text) (cond d (number_piece text) (cond q (string_piece text) (other_piece text))))
-unfolding piece_from
+    scan_from c text ≡ cond b (piece.Between 1) (cond l (scan_name text) (cond d (scan_number text) (cond q (scan_string text) (scan_other text))))
+unfolding scan_from
 route c text b l d q e f g h = rw (e, f, g, h) refl
 
-route_letter : (c : ℕ) (text : List ℕ) → is_letter c ≡ true → piece_from c text ≡ name_piece text
+route_letter : (c : ℕ) (text : List ℕ) → is_letter c ≡ true → scan_from c text ≡ scan_name text
 route_letter c text h = route c text false true (is_digit c) (nat_eq c 34) (letter_no_blank c h) h refl refl
 
-route_digit : (c : ℕ) (text : List ℕ) → is_digit c ≡ true → piece_from c text ≡ number_piece text
+route_digit : (c : ℕ) (text : List ℕ) → is_digit c ≡ true → scan_from c text ≡ scan_number text
 route_digit c text h = route c text false false true (nat_eq c 34) (digit_no_blank c h) (digit_no_letter c h) h refl
 
 -- ---- blanks and comments
@@ -56,7 +56,7 @@ two n = omega arith
 
 line_inside : (inside rest : List ℕ) → list_all is_in_line inside ≡ true → begins is_in_line rest ≡ false →
     front_piece ((47 ∷ 47 ∷ inside) ++ rest) ≡ piece.Between (suc (suc (length inside)))
-unfolding piece_from other_piece line_piece
+unfolding scan_from scan_other scan_line
 line_inside inside rest h e = ap (λ n. piece.Between (n + 2)) (run_over is_in_line inside rest h e) ∙ ap (λ n. piece.Between n) (two (length inside))
 
 line_is : (bytes rest : List ℕ) → IsLine bytes rest → front_piece (bytes ++ rest) ≡ piece.Between (length bytes)
@@ -65,10 +65,10 @@ line_is bytes rest i =
 
 block_inside : (inside rest : List ℕ) → holds_end (inside ++ 42 ∷ []) ≡ false →
     front_piece ((47 ∷ 42 ∷ (inside ++ 42 ∷ 47 ∷ [])) ++ rest) ≡ piece.Between (suc (suc (length (inside ++ 42 ∷ 47 ∷ []))))
-unfolding piece_from other_piece block_piece
+unfolding scan_from scan_other scan_block
 block_inside inside rest h =
-    ap (λ t. block_judged (block_length t)) (append_assoc inside (42 ∷ 47 ∷ []) rest)
-    ∙ (ap block_judged (block_over inside rest h)
+    ap (λ t. scan_closed_block (block_length t)) (append_assoc inside (42 ∷ 47 ∷ []) rest)
+    ∙ (ap scan_closed_block (block_over inside rest h)
     ∙ ap (λ n. piece.Between n) (two (length inside + 2) ∙ ap (λ n. suc (suc n)) (sym (length-append inside (42 ∷ 47 ∷ [])))))
 
 block_is : (bytes rest : List ℕ) → IsBlock bytes → front_piece (bytes ++ rest) ≡ piece.Between (length bytes)
@@ -100,7 +100,7 @@ name_at bytes rest n e =
 
 name_is : (bytes rest : List ℕ) → is_name bytes ≡ true → IsLongest bytes rest →
     front_piece (bytes ++ rest) ≡ piece.Token (cond (is_word bytes) kind.Word kind.Id) (length bytes)
-unfolding name_piece
+unfolding scan_name
 name_is [] rest h k = absurd (let f : false ≡ true = h in cc)
 name_is (c ∷ ws) rest h k =
     let p = and_parts (is_letter c) (list_all is_name_byte ws) h in
@@ -115,14 +115,14 @@ digits_ended c ws (d ∷ ds) h k =
     false_from_ne_true (is_digit d)
     (λ e. both_ways _ (longest_next (c ∷ ws) d ds k) (or_left _ _ (or_left _ _ (or_right _ _ (all_more is_digit (c ∷ ws) d h e)))))
 
-abbrev number_judged : List ℕ → ℕ → Piece
+abbrev number_judged : List ℕ → ℕ → Scan
 number_judged digits n = cond (is_number digits) (piece.Token kind.Number n) (piece.Refused rule.L3 0)
 
 number_at : (bytes rest : List ℕ) (n : ℕ) → n ≡ length bytes → number_judged (take n (bytes ++ rest)) n ≡ number_judged bytes (length bytes)
 number_at bytes rest n e = ap (λ t. number_judged t n) (take_at bytes rest n (sym e)) ∙ ap (number_judged bytes) e
 
 number_is : (bytes rest : List ℕ) → is_digits bytes ≡ true → IsLongest bytes rest → front_piece (bytes ++ rest) ≡ number_judged bytes (length bytes)
-unfolding number_piece
+unfolding scan_number
 number_is [] rest h k = absurd (let f : false ≡ true = h in cc)
 number_is (c ∷ ws) rest h k =
     route_digit c ((c ∷ ws) ++ rest) (and_parts (is_digit c) (list_all is_digit ws) h).0
@@ -130,18 +130,18 @@ number_is (c ∷ ws) rest h k =
 
 -- ---- strings
 
-string_at : (cs rest : List ℕ) → is_closed false cs ≡ true → front_piece ((34 ∷ cs) ++ rest) ≡ escapes_judged (suc (length cs)) (bad_escape (34 ∷ cs))
-unfolding piece_from string_piece
+string_at : (cs rest : List ℕ) → is_string_rest false cs ≡ true → front_piece ((34 ∷ cs) ++ rest) ≡ scan_escapes (suc (length cs)) (bad_escape (34 ∷ cs))
+unfolding scan_from scan_string
 string_at cs rest h =
-    ap (string_judged (34 ∷ (cs ++ rest))) (closed_over false cs rest h)
-    ∙ (ap (λ n. escapes_judged n (bad_escape (take n (34 ∷ (cs ++ rest))))) (add-one (length cs))
-    ∙ ap (λ t. escapes_judged (suc (length cs)) (bad_escape (34 ∷ t))) (take_at cs rest (length cs) refl))
+    ap (scan_closed_string (34 ∷ (cs ++ rest))) (closed_over false cs rest h)
+    ∙ (ap (λ n. scan_escapes n (bad_escape (take n (34 ∷ (cs ++ rest))))) (add-one (length cs))
+    ∙ ap (λ t. scan_escapes (suc (length cs)) (bad_escape (34 ∷ t))) (take_at cs rest (length cs) refl))
 
-string_is : (bytes rest : List ℕ) → is_string bytes ≡ true → front_piece (bytes ++ rest) ≡ escapes_judged (length bytes) (bad_escape bytes)
+string_is : (bytes rest : List ℕ) → is_string bytes ≡ true → front_piece (bytes ++ rest) ≡ scan_escapes (length bytes) (bad_escape bytes)
 string_is [] rest h = absurd (let f : false ≡ true = h in cc)
 string_is (c ∷ cs) rest h =
-    let p = and_parts (nat_eq c 34) (is_closed false cs) h in
-    subst (λ x. front_piece ((x ∷ cs) ++ rest) ≡ escapes_judged (suc (length cs)) (bad_escape (x ∷ cs))) (sym (eqb-true c 34 p.0)) (string_at cs rest p.1)
+    let p = and_parts (nat_eq c 34) (is_string_rest false cs) h in
+    subst (λ x. front_piece ((x ∷ cs) ++ rest) ≡ scan_escapes (suc (length cs)) (bad_escape (x ∷ cs))) (sym (eqb-true c 34 p.0)) (string_at cs rest p.1)
 
 none_is : (o : Option ℕ) → is_none o ≡ true → o ≡ None
 none_is None h = refl
@@ -172,14 +172,14 @@ no_line [] h = (refl, refl)
 no_line (c ∷ []) h = (refl, refl)
 no_line (c ∷ d ∷ cs) h = no_line_at (nat_eq c 47) (nat_eq d 47) (nat_eq d 42) h
 
-route_other : (c : ℕ) (cs : List ℕ) → Plain c → begins_line (c ∷ cs) ≡ false → begins_block (c ∷ cs) ≡ false → front_piece (c ∷ cs) ≡ sign_piece (c ∷ cs)
-unfolding other_piece
+route_other : (c : ℕ) (cs : List ℕ) → Plain c → begins_line (c ∷ cs) ≡ false → begins_block (c ∷ cs) ≡ false → front_piece (c ∷ cs) ≡ scan_sign (c ∷ cs)
+unfolding scan_other
 route_other c cs p l b =
     route c (c ∷ cs) false false false false p.blank p.letter p.digit p.quote
-    ∙ (ap (λ x. cond x (line_piece (c ∷ cs)) (cond (begins_block (c ∷ cs)) (block_piece (c ∷ cs)) (sign_piece (c ∷ cs)))) l
-    ∙ ap (λ x. cond x (block_piece (c ∷ cs)) (sign_piece (c ∷ cs))) b)
+    ∙ (ap (λ x. cond x (scan_line (c ∷ cs)) (cond (begins_block (c ∷ cs)) (scan_block (c ∷ cs)) (scan_sign (c ∷ cs)))) l
+    ∙ ap (λ x. cond x (scan_block (c ∷ cs)) (scan_sign (c ∷ cs))) b)
 
-abbrev judged : ℕ → Piece
+abbrev judged : ℕ → Scan
 judged n = cond (nat_eq n 0) (piece.Refused rule.L1 0) (piece.Token kind.Sign n)
 
 no_long : (c d : ℕ) (ds : List ℕ) → IsLongest (c ∷ []) (d ∷ ds) → long_sign c d ≡ false
@@ -203,7 +203,7 @@ no_empty_sign h = let f : false ≡ true = h in cc
 
 sign_is : (bytes rest : List ℕ) → is_sign bytes ≡ true → IsLongest bytes rest → begins_comment (bytes ++ rest) ≡ false →
     front_piece (bytes ++ rest) ≡ piece.Token kind.Sign (length bytes)
-unfolding sign_piece
+unfolding scan_sign
 sign_is [] rest h k n = absurd (no_empty_sign h)
 sign_is (c ∷ cs) rest h k n =
     let l = no_line ((c ∷ cs) ++ rest) n in
@@ -219,11 +219,11 @@ token_is kind.Id bytes rest t =
     name_is bytes rest p.0 t.longest ∙ ap (λ b. piece.Token (cond b kind.Word kind.Id) (length bytes)) p.1
 token_is kind.Number bytes rest t =
     number_is bytes rest t.form t.longest ∙ ap (λ b. cond b (piece.Token kind.Number (length bytes)) (piece.Refused rule.L3 0)) t.kept
-token_is kind.Str bytes rest t = string_is bytes rest t.form ∙ ap (escapes_judged (length bytes)) (none_is (bad_escape bytes) t.kept)
+token_is kind.Str bytes rest t = string_is bytes rest t.form ∙ ap (scan_escapes (length bytes)) (none_is (bad_escape bytes) t.kept)
 token_is kind.Sign bytes rest t = sign_is bytes rest t.form t.longest t.no_comment
 
 -- a part that stands at the front is found there
-pub part_is : (what : What) (bytes rest : List ℕ) → Stands what bytes rest → front_piece (bytes ++ rest) ≡ piece_for what (length bytes)
+pub part_is : (what : PartKind) (bytes rest : List ℕ) → Stands what bytes rest → front_piece (bytes ++ rest) ≡ piece_for what (length bytes)
 part_is Blank bytes rest s = blank_is bytes rest s
 part_is Line bytes rest s = line_is bytes rest s
 part_is Block bytes rest s = block_is bytes rest s
@@ -252,7 +252,7 @@ line_without c [] e = refl
 line_without c (d ∷ ds) e = and_left (nat_eq c 47) _ e
 
 strange_is : (text : List ℕ) → IsStrange text → front_piece text ≡ piece.Refused rule.L1 0
-unfolding sign_piece
+unfolding scan_sign
 strange_is [] i = absurd (let f : false ≡ true = i.other in cc)
 strange_is (c ∷ cs) i =
     let p = and_parts (not (is_blank c)) (not (nat_eq c 34)) i.other in
@@ -261,13 +261,13 @@ strange_is (c ∷ cs) i =
     route_other c cs record { blank = not-true _ p.0; letter = f.0; digit = f.1.0; quote = not-true _ p.1 } l.0 l.1
     ∙ ap judged (strange_measured c cs f.1.1 i.none)
 
-open_at : (cs : List ℕ) (o : Option ℕ) → closed_length false cs ≡ o → ((n : ℕ) → is_string (take n (34 ∷ cs)) ≡ false) → o ≡ None
+open_at : (cs : List ℕ) (o : Option ℕ) → length_to_quote false cs ≡ o → ((n : ℕ) → is_string (take n (34 ∷ cs)) ≡ false) → o ≡ None
 open_at cs None e none = refl
 open_at cs (Some n) e none = absurd (both_ways _ (none (suc n)) (closed_is false cs n e).is)
 
 unclosed_at : (cs : List ℕ) → ((n : ℕ) → is_string (take n (34 ∷ cs)) ≡ false) → front_piece (34 ∷ cs) ≡ piece.Refused rule.L2 0
-unfolding piece_from string_piece
-unclosed_at cs none = ap (string_judged (34 ∷ cs)) (open_at cs (closed_length false cs) refl none)
+unfolding scan_from scan_string
+unclosed_at cs none = ap (scan_closed_string (34 ∷ cs)) (open_at cs (length_to_quote false cs) refl none)
 
 unclosed_is : (text : List ℕ) → IsUnclosedString text → front_piece text ≡ piece.Refused rule.L2 0
 unclosed_is [] i = absurd (let f : false ≡ true = i.quote in cc)
@@ -283,17 +283,17 @@ bad_number_is text i =
     ∙ ap (λ b. cond b (piece.Token kind.Number (length i.digits)) (piece.Refused rule.L3 0)) i.bad)
 
 comment_at : (inside : List ℕ) → holds_end inside ≡ false → front_piece (47 ∷ 42 ∷ inside) ≡ piece.Refused rule.L4 0
-unfolding piece_from other_piece block_piece
-comment_at inside h = ap block_judged (block_never inside h)
+unfolding scan_from scan_other scan_block
+comment_at inside h = ap scan_closed_block (block_never inside h)
 
 comment_is : (text : List ℕ) → IsUnclosedComment text → front_piece text ≡ piece.Refused rule.L4 0
 comment_is text i = ap front_piece i.spelled ∙ comment_at i.inside i.none
 
 bad_string_is : (text : List ℕ) (place : ℕ) → IsBadString text place → front_piece text ≡ piece.Refused rule.L5 place
 bad_string_is text place i =
-    ap front_piece i.spelled ∙ (string_is i.string i.behind i.form ∙ ap (escapes_judged (length i.string)) i.bad)
+    ap front_piece i.spelled ∙ (string_is i.string i.behind i.form ∙ ap (scan_escapes (length i.string)) i.bad)
 
-at_zero : (of : LexRule) (place : ℕ) (p : Piece) → place ≡ 0 → p ≡ piece.Refused of 0 → p ≡ piece.Refused of place
+at_zero : (of : LexRule) (place : ℕ) (p : Scan) → place ≡ 0 → p ≡ piece.Refused of 0 → p ≡ piece.Refused of place
 at_zero of place p e h = h ∙ ap (λ n. piece.Refused of n) (sym e)
 
 -- a violation that stands at the front is found there

@@ -5,9 +5,9 @@ use Rattle.std.specs.Str.{bytes_eq}
 use Rattle.std.proofs.Math.Bool.{or_assoc, or-false, and-true, and-false}
 use Rattle.std.proofs.lemmas.Bool.{both_ways, false_from_ne_true, and_parts, and_from, and_left, and_right, or_from, or_cases, not-true, eqb-true}
 use Rattle.std.proofs.lemmas.Bool.Decides.{nat_tests}
-use Rattle.sal_ast.specs.Lexemes.{is_letter, is_digit, is_name, is_word, is_identifier, is_sign, words, signs}
+use Rattle.sal_ast.specs.Lexemes.{is_letter, is_digit, is_name, is_word, is_identifier, is_sign, reserved_words, signs}
 use Rattle.sal_text.specs.Tokens.{is_blank, is_digits, is_string, is_form, IsLongest, begins, begins_comment}
-use Rattle.sal_text.specs.Reading.{short_sign, long_sign}
+use Rattle.sal_text.specs.code.Scanning.{short_sign, long_sign}
 
 eq_at : (a b : ℕ) (xs ys : List ℕ) → (nat_eq a b && bytes_eq xs ys) ≡ true → (bytes_eq xs ys ≡ true → xs ≡ ys) → a ∷ xs ≡ b ∷ ys
 eq_at a b xs ys e more =
@@ -34,7 +34,7 @@ among test bytes (x ∷ xs) h e =
 
 pub word_name : (bytes : List ℕ) → is_word bytes ≡ true → is_name bytes ≡ true
 unfolding is_word
-word_name bytes h = among is_name bytes words refl h
+word_name bytes h = among is_name bytes reserved_words refl h
 
 pub identifier_parts : (bytes : List ℕ) → is_identifier bytes ≡ true → (is_name bytes ≡ true) × (is_word bytes ≡ false)
 unfolding is_identifier

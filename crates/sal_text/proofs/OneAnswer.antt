@@ -5,17 +5,17 @@ use Rattle.sal_ast.specs.declared.lexeme.Kind.{Kind}
 use Rattle.sal_text.specs.declared.token.LexRule.{LexRule}
 use Rattle.sal_text.specs.declared.token.LexRule.TheVariants as rule
 use Rattle.sal_text.specs.declared.token.Token.{Token}
-use Rattle.sal_text.specs.declared.piece.Piece.TheVariants as piece
-use Rattle.sal_text.specs.Tokens.{What, Blank, Line, Block, Of, Part, Stands, Cuts, with_token, tokens_from, Covers}
+use Rattle.sal_text.specs.declared.piece.Scan.TheVariants as piece
+use Rattle.sal_text.specs.Tokens.{PartKind, Blank, Line, Block, Of, Part, Stands, Cuts, with_token, tokens_from, Covers}
 use Rattle.sal_text.specs.Refusals.{IsNoText, Violates, IsCutShort, Refuses}
-use Rattle.sal_text.specs.Answered.{OneCover, NoneOfBoth, OneRefusal}
+use Rattle.sal_text.specs.Uniqueness.{CoversAreUnique, NeverCoveredAndRefused, RefusalsAreUnique}
 use Rattle.sal_text.proofs.Complete.{front_piece, piece_for, part_is, violation_is}
 
 -- no part stands at the front of the text
 abbrev IsStuck : List ℕ → Type 0
 IsStuck text = (rule : LexRule) × ((place : ℕ) × (front_piece text ≡ piece.Refused rule place))
 
-part_moves : (what : What) (n : ℕ) (rule : LexRule) (place : ℕ) → piece_for what n ≡ piece.Refused rule place → ⊥
+part_moves : (what : PartKind) (n : ℕ) (rule : LexRule) (place : ℕ) → piece_for what n ≡ piece.Refused rule place → ⊥
 part_moves Blank n rule place h = cc
 part_moves Line n rule place h = cc
 part_moves Block n rule place h = cc
@@ -26,7 +26,7 @@ never part rest text e s k =
     part_moves part.what (length part.bytes) k.0 k.1.0 (sym (part_is part.what part.bytes rest s) ∙ (ap front_piece (sym e) ∙ k.1.1))
 
 -- two parts that are found alike are as long, and give the same tokens
-record Alike (a b : What) (m n : ℕ) : Type 0 where
+record Alike (a b : PartKind) (m n : ℕ) : Type 0 where
   long : m ≡ n
   same : (start end : ℕ) (tokens : List Token) → with_token a start end tokens ≡ with_token b start end tokens
 
@@ -36,7 +36,7 @@ between_long m n h = cc
 token_long : (a b : Kind) (m n : ℕ) → piece.Token a m ≡ piece.Token b n → (a ≡ b) × (m ≡ n)
 token_long a b m n h = (cc, cc)
 
-alike : (a b : What) (m n : ℕ) → piece_for a m ≡ piece_for b n → Alike a b m n
+alike : (a b : PartKind) (m n : ℕ) → piece_for a m ≡ piece_for b n → Alike a b m n
 alike Blank Blank m n h = record { long = between_long m n h; same = λ s e ts. refl }
 alike Blank Line m n h = record { long = between_long m n h; same = λ s e ts. refl }
 alike Blank Block m n h = record { long = between_long m n h; same = λ s e ts. refl }
@@ -91,7 +91,7 @@ end_stuck = (rule.L0, (0, refl))
 violation_stuck : (of : LexRule) (text : List ℕ) (place : ℕ) → Violates of text place → IsStuck text
 violation_stuck of text place v = (of, (place, violation_is of text place v))
 
-pub one_cover : OneCover
+pub one_cover : CoversAreUnique
 one_cover text tokens others a b =
     sym a.spans ∙ ((once a.parts b.parts text text [] [] refl a.cut b.cut end_stuck end_stuck).tokens 0 ∙ b.spans)
 
@@ -116,7 +116,7 @@ short_of_cover of text tokens at a i =
 no_text_of_cover : (text : List ℕ) (tokens : List Token) (at : ℕ) → length text ≤ 262144 → Covers text tokens → IsNoText text at → ⊥
 no_text_of_cover text tokens at h a n = elim n [ inl l ↦ let k = l.0 in omega arith | inr u ↦ u.1.0 a.utf8 ]
 
-pub none_of_both : NoneOfBoth
+pub none_of_both : NeverCoveredAndRefused
 none_of_both text tokens rule.L0 at h a r = no_text_of_cover text tokens at h a r
 none_of_both text tokens rule.L1 at h a r = short_of_cover rule.L1 text tokens at a r
 none_of_both text tokens rule.L2 at h a r = short_of_cover rule.L2 text tokens at a r
@@ -164,5 +164,5 @@ causes text of other at place (NoText e a) (Short j) = absurd (no_text_short oth
 causes text of other at place (Short i) (NoText f b) = absurd (no_text_short of text place at b i)
 causes text of other at place (Short i) (Short j) = both_short of other text at place i j
 
-pub one_refusal : OneRefusal
+pub one_refusal : RefusalsAreUnique
 one_refusal text of other at place r s = causes text of other at place (cause of at text r) (cause other place text s)

@@ -3,7 +3,7 @@ use Rattle.std.proofs.Common.{◌≡◌, ℕ, suc, ◌≤◌, Bool, true, false,
 use Rattle.std.specs.List.{list_all}
 use Rattle.std.proofs.lemmas.Bool.{and_parts}
 use Rattle.sal_text.specs.Tokens.{begins}
-use Rattle.sal_text.specs.Reading.{run_length}
+use Rattle.sal_text.specs.code.Scanning.{run_length}
 
 record Front (is : ℕ → Bool) (text : List ℕ) : Type 0 where
   all : list_all is (take (run_length is text) text) ≡ true

@@ -9,13 +9,13 @@ use Rattle.sal_ast.specs.declared.constants.TheConstants.{LONGEST_PROGRAM}
 use Rattle.sal_text.specs.declared.token.LexRule.{LexRule}
 use Rattle.sal_text.specs.declared.token.LexRule.TheVariants as rule
 use Rattle.sal_text.specs.declared.token.Token.{Token}
-use Rattle.sal_text.specs.declared.piece.Piece.{Piece}
-use Rattle.sal_text.specs.declared.piece.Piece.TheVariants as piece
+use Rattle.sal_text.specs.declared.piece.Scan.{Scan}
+use Rattle.sal_text.specs.declared.piece.Scan.TheVariants as piece
 use Rattle.sal_text.specs.Tokens.{Covers}
 use Rattle.sal_text.specs.Refusals.{Refuses}
-use Rattle.sal_text.specs.Reading.{piece_from}
-use Rattle.sal_text.specs.Answered.{CoveredOrRefused}
-use Rattle.sal_text.specs.Found.{Found}
+use Rattle.sal_text.specs.code.Scanning.{scan_from}
+use Rattle.sal_text.specs.Uniqueness.{CoveredOrRefused}
+use Rattle.sal_text.specs.code.Scanned.{IsScanOf}
 use Rattle.sal_text.proofs.Sound.{found}
 use Rattle.sal_text.proofs.Steps.{Reached, begun, reached_between, reached_token, reached_end, reached_refusal}
 
@@ -27,7 +27,7 @@ module _ (text : List ℕ) (u : IsUtf8 text) (short : length text ≤ LONGEST_PR
   abbrev Goes : ℕ → Type 0
   Goes n = (at : ℕ) (tokens : List Token) → length text - at ≤ n → Reached text at tokens → Answer text
 
-  by_piece : (n : ℕ) → Goes n → (at : ℕ) (tokens : List Token) → length text - at ≤ suc n → Reached text at tokens → (p : Piece) → Found p (drop at text) → Answer text
+  by_piece : (n : ℕ) → Goes n → (at : ℕ) (tokens : List Token) → length text - at ≤ suc n → Reached text at tokens → (p : Scan) → IsScanOf p (drop at text) → Answer text
   by_piece n more at tokens left r (piece.Between k) f =
       more (at + k) tokens (let s = f.some in let w = f.within in omega (arith, length-drop at text)) (reached_between text at k tokens r f)
   by_piece n more at tokens left r (piece.Token of k) f =
@@ -38,7 +38,7 @@ module _ (text : List ℕ) (u : IsUtf8 text) (short : length text ≤ LONGEST_PR
   by_front n more at tokens left r [] e =
       let none : length (drop at text) ≡ 0 = ap length e in
       inl (tokens, reached_end text at tokens r (omega (arith, length-drop at text)) u)
-  by_front n more at tokens left r (c ∷ cs) e = by_piece n more at tokens left r (piece_from c (c ∷ cs)) (subst (Found (piece_from c (c ∷ cs))) (sym e) (found c cs))
+  by_front n more at tokens left r (c ∷ cs) e = by_piece n more at tokens left r (scan_from c (c ∷ cs)) (subst (IsScanOf (scan_from c (c ∷ cs))) (sym e) (found c cs))
 
   goes : (n : ℕ) → Goes n
   goes zero at tokens left r = inl (tokens, reached_end text at tokens r (omega arith) u)

@@ -5,13 +5,13 @@ use Rattle.std.proofs.lemmas.List.{take-append-drop, take_at, take_rest}
 use Rattle.sal_ast.specs.declared.lexeme.Kind.TheVariants as kind
 use Rattle.sal_ast.specs.Lexemes.{is_letter, is_digit, is_name_byte, is_name, is_word, is_number, is_sign}
 use Rattle.sal_text.specs.declared.token.LexRule.TheVariants as rule
-use Rattle.sal_text.specs.declared.piece.Piece.{Piece}
-use Rattle.sal_text.specs.declared.piece.Piece.TheVariants as piece
+use Rattle.sal_text.specs.declared.piece.Scan.{Scan}
+use Rattle.sal_text.specs.declared.piece.Scan.TheVariants as piece
 use Rattle.sal_text.specs.Values.{bad_escape}
-use Rattle.sal_text.specs.Tokens.{is_blank, is_in_line, begins, is_closed, has_form, is_form, is_kept, IsLongest, begins_comment, Blank, Line, Block}
+use Rattle.sal_text.specs.Tokens.{is_blank, is_in_line, begins, is_string_rest, has_form, is_form, is_valid, IsLongest, begins_comment, Blank, Line, Block}
 use Rattle.sal_text.specs.Refusals.{Violates}
-use Rattle.sal_text.specs.Found.{Between, Standing, Found}
-use Rattle.sal_text.specs.Reading.{run_length, block_length, closed_length, short_sign, long_sign, short_length, name_piece, number_piece, escapes_judged, string_judged, string_piece, line_piece, block_judged, block_piece, sign_piece, begins_line, begins_block, other_piece, piece_from}
+use Rattle.sal_text.specs.code.Scanned.{IsBetween, IsTokenAtFront, IsScanOf}
+use Rattle.sal_text.specs.code.Scanning.{run_length, block_length, length_to_quote, short_sign, long_sign, short_length, scan_name, scan_number, scan_escapes, scan_closed_string, scan_string, scan_line, scan_closed_block, scan_block, scan_sign, begins_line, begins_block, scan_other, scan_from}
 use Rattle.sal_text.proofs.Runs.{run_all, run_ended, run_within}
 use Rattle.sal_text.proofs.Blocks.{Ended, block_is, block_open}
 use Rattle.sal_text.proofs.Closings.{Closed, closed_is, never_closed, closed_once}
@@ -19,7 +19,7 @@ use Rattle.sal_text.proofs.Forms.{identifier_from, sign_one, sign_two, sign_more
 
 -- ---- blanks
 
-blank_found : (c : ℕ) (cs : List ℕ) → is_blank c ≡ true → Found (piece.Between 1) (c ∷ cs)
+blank_found : (c : ℕ) (cs : List ℕ) → is_blank c ≡ true → IsScanOf (piece.Between 1) (c ∷ cs)
 blank_found c cs h =
     record { what = Blank; quiet = λ s e ts. refl; some = omega arith; within = omega arith; stands = and_from (is_blank c) true h refl }
 
@@ -41,12 +41,12 @@ name_form : (bytes : List ℕ) (b : Bool) → is_word bytes ≡ b → is_name by
 name_form bytes true e h = e
 name_form bytes false e h = identifier_from bytes h e
 
-name_kept : (bytes : List ℕ) (b : Bool) → is_kept (cond b kind.Word kind.Id) bytes ≡ true
+name_kept : (bytes : List ℕ) (b : Bool) → is_valid (cond b kind.Word kind.Id) bytes ≡ true
 name_kept bytes true = refl
 name_kept bytes false = refl
 
 name_at : (c : ℕ) (cs : List ℕ) → is_letter c ≡ true →
-    Standing (cond (is_word (take (suc (run_length is_name_byte cs)) (c ∷ cs))) kind.Word kind.Id) (suc (run_length is_name_byte cs)) (c ∷ cs)
+    IsTokenAtFront (cond (is_word (take (suc (run_length is_name_byte cs)) (c ∷ cs))) kind.Word kind.Id) (suc (run_length is_name_byte cs)) (c ∷ cs)
 name_at c cs h =
     let n : ℕ = run_length is_name_byte cs in
     let named : is_name (c ∷ take (run_length is_name_byte cs) cs) ≡ true = and_from (is_letter c) _ h (run_all is_name_byte cs) in
@@ -61,10 +61,10 @@ name_at c cs h =
       };
     }
 
-name_found : (c : ℕ) (cs : List ℕ) → is_letter c ≡ true → Found (name_piece (c ∷ cs)) (c ∷ cs)
-unfolding name_piece
+name_found : (c : ℕ) (cs : List ℕ) → is_letter c ≡ true → IsScanOf (scan_name (c ∷ cs)) (c ∷ cs)
+unfolding scan_name
 name_found c cs h =
-    subst (λ n. Standing (cond (is_word (take n (c ∷ cs))) kind.Word kind.Id) n (c ∷ cs)) (sym (run_next is_name_byte c cs (letter_byte c h))) (name_at c cs h)
+    subst (λ n. IsTokenAtFront (cond (is_word (take n (c ∷ cs))) kind.Word kind.Id) n (c ∷ cs)) (sym (run_next is_name_byte c cs (letter_byte c h))) (name_at c cs h)
 
 -- ---- numbers
 
@@ -74,7 +74,7 @@ digits_longest c ws rest h e =
     (λ d tail ds s. form_digit c (ws ++ d ∷ ds) h (and_right (is_digit c) _ (not_all is_digit ws d ds (ap (begins is_digit) (sym s) ∙ e))))
 
 number_judged : (c : ℕ) (cs : List ℕ) (b : Bool) → is_digit c ≡ true → is_number (c ∷ take (run_length is_digit cs) cs) ≡ b →
-    Found (cond b (piece.Token kind.Number (suc (run_length is_digit cs))) (piece.Refused rule.L3 0)) (c ∷ cs)
+    IsScanOf (cond b (piece.Token kind.Number (suc (run_length is_digit cs))) (piece.Refused rule.L3 0)) (c ∷ cs)
 number_judged c cs true h e = record {
   some = omega arith;
   within = let w = run_within is_digit cs in omega arith;
@@ -97,18 +97,18 @@ number_judged c cs false h e = (
   },
 )
 
-number_found : (c : ℕ) (cs : List ℕ) → is_digit c ≡ true → Found (number_piece (c ∷ cs)) (c ∷ cs)
-unfolding number_piece
+number_found : (c : ℕ) (cs : List ℕ) → is_digit c ≡ true → IsScanOf (scan_number (c ∷ cs)) (c ∷ cs)
+unfolding scan_number
 number_found c cs h =
-    subst (λ n. Found (cond (is_number (take n (c ∷ cs))) (piece.Token kind.Number n) (piece.Refused rule.L3 0)) (c ∷ cs))
+    subst (λ n. IsScanOf (cond (is_number (take n (c ∷ cs))) (piece.Token kind.Number n) (piece.Refused rule.L3 0)) (c ∷ cs))
     (sym (run_next is_digit c cs h)) (number_judged c cs (is_number (c ∷ take (run_length is_digit cs) cs)) h refl)
 
 -- ---- strings
 
-string_longest : (text rest : List ℕ) → is_closed false text ≡ true → IsLongest (34 ∷ text) rest
+string_longest : (text rest : List ℕ) → is_string_rest false text ≡ true → IsLongest (34 ∷ text) rest
 string_longest text rest h = longest_from (34 ∷ text) rest (λ d tail ds s. form_quote (text ++ d ∷ ds) ∙ closed_once text d ds h)
 
-escapes_found : (n : ℕ) (cs : List ℕ) (o : Option ℕ) → Closed false cs n → bad_escape (34 ∷ take n cs) ≡ o → Found (escapes_judged (suc n) o) (34 ∷ cs)
+escapes_found : (n : ℕ) (cs : List ℕ) (o : Option ℕ) → Closed false cs n → bad_escape (34 ∷ take n cs) ≡ o → IsScanOf (scan_escapes (suc n) o) (34 ∷ cs)
 escapes_found n cs None i e = record {
   some = omega arith;
   within = let w = i.within in omega arith;
@@ -127,25 +127,25 @@ escapes_found n cs (Some at) i e = record {
   bad = e;
 }
 
-string_found_at : (cs : List ℕ) (o : Option ℕ) → closed_length false cs ≡ o → Found (string_judged (34 ∷ cs) o) (34 ∷ cs)
+string_found_at : (cs : List ℕ) (o : Option ℕ) → length_to_quote false cs ≡ o → IsScanOf (scan_closed_string (34 ∷ cs) o) (34 ∷ cs)
 string_found_at cs None e = (refl, record { quote = refl; none = never_closed cs e })
 string_found_at cs (Some n) e =
-    subst (λ m. Found (escapes_judged m (bad_escape (take m (34 ∷ cs)))) (34 ∷ cs)) (sym (add-one n))
+    subst (λ m. IsScanOf (scan_escapes m (bad_escape (take m (34 ∷ cs)))) (34 ∷ cs)) (sym (add-one n))
     (escapes_found n cs (bad_escape (34 ∷ take n cs)) (closed_is false cs n e) refl)
 
-string_found : (cs : List ℕ) → Found (string_piece (34 ∷ cs)) (34 ∷ cs)
-unfolding string_piece
-string_found cs = string_found_at cs (closed_length false cs) refl
+string_found : (cs : List ℕ) → IsScanOf (scan_string (34 ∷ cs)) (34 ∷ cs)
+unfolding scan_string
+string_found cs = string_found_at cs (length_to_quote false cs) refl
 
 -- ---- comments
 
 two : (n : ℕ) → n + 2 ≡ suc (suc n)
 two n = omega arith
 
-line_found : (cs : List ℕ) → Found (line_piece (47 ∷ 47 ∷ cs)) (47 ∷ 47 ∷ cs)
-unfolding line_piece
+line_found : (cs : List ℕ) → IsScanOf (scan_line (47 ∷ 47 ∷ cs)) (47 ∷ 47 ∷ cs)
+unfolding scan_line
 line_found cs =
-    subst (λ n. Between n (47 ∷ 47 ∷ cs)) (sym (two (run_length is_in_line cs)))
+    subst (λ n. IsBetween n (47 ∷ 47 ∷ cs)) (sym (two (run_length is_in_line cs)))
     record {
       what = Line;
       quiet = λ s e ts. refl;
@@ -154,7 +154,7 @@ line_found cs =
       stands = record { inside = take (run_length is_in_line cs) cs; spelled = refl; on_line = run_all is_in_line cs; ended = run_ended is_in_line cs };
     }
 
-block_ended : (cs : List ℕ) (n : ℕ) → Ended cs n → Between (suc (suc n)) (47 ∷ 42 ∷ cs)
+block_ended : (cs : List ℕ) (n : ℕ) → Ended cs n → IsBetween (suc (suc n)) (47 ∷ 42 ∷ cs)
 block_ended cs n i =
     let whole : cs ≡ (i.inside ++ 42 ∷ 47 ∷ []) ++ i.rest = i.spelled ∙ sym (append_assoc i.inside (42 ∷ 47 ∷ []) i.rest) in
     let long : length (i.inside ++ 42 ∷ 47 ∷ []) ≡ n = length-append i.inside (42 ∷ 47 ∷ []) ∙ i.counted in
@@ -167,12 +167,12 @@ block_ended cs n i =
       stands = record { inside = i.inside; spelled = ap (λ t. 47 ∷ 42 ∷ t) front; first = i.first };
     }
 
-block_found_at : (cs : List ℕ) (o : Option ℕ) → block_length cs ≡ o → Found (block_judged o) (47 ∷ 42 ∷ cs)
+block_found_at : (cs : List ℕ) (o : Option ℕ) → block_length cs ≡ o → IsScanOf (scan_closed_block o) (47 ∷ 42 ∷ cs)
 block_found_at cs None e = (refl, record { inside = cs; spelled = refl; none = block_open cs e })
-block_found_at cs (Some n) e = subst (λ m. Between m (47 ∷ 42 ∷ cs)) (sym (two n)) (block_ended cs n (block_is cs n e))
+block_found_at cs (Some n) e = subst (λ m. IsBetween m (47 ∷ 42 ∷ cs)) (sym (two n)) (block_ended cs n (block_is cs n e))
 
-block_found : (cs : List ℕ) → Found (block_piece (47 ∷ 42 ∷ cs)) (47 ∷ 42 ∷ cs)
-unfolding block_piece
+block_found : (cs : List ℕ) → IsScanOf (scan_block (47 ∷ 42 ∷ cs)) (47 ∷ 42 ∷ cs)
+unfolding scan_block
 block_found cs = block_found_at cs (block_length cs) refl
 
 -- ---- signs
@@ -193,10 +193,10 @@ unfolding is_sign
 nothing = refl
 
 -- a sign of one byte, behind which another makes no sign of two
-one_found : (c : ℕ) (cs : List ℕ) → short_sign c ≡ true → IsLongest (c ∷ []) cs → begins_comment (c ∷ cs) ≡ false → Standing kind.Sign 1 (c ∷ cs)
+one_found : (c : ℕ) (cs : List ℕ) → short_sign c ≡ true → IsLongest (c ∷ []) cs → begins_comment (c ∷ cs) ≡ false → IsTokenAtFront kind.Sign 1 (c ∷ cs)
 one_found c cs s l n = record { some = omega arith; within = omega arith; stands = record { form = sign_one c ∙ s; longest = l; no_comment = n; kept = refl } }
 
-two_found : (c d : ℕ) (cs : List ℕ) → Other c → long_sign c d ≡ true → begins_comment (c ∷ d ∷ cs) ≡ false → Standing kind.Sign 2 (c ∷ d ∷ cs)
+two_found : (c d : ℕ) (cs : List ℕ) → Other c → long_sign c d ≡ true → begins_comment (c ∷ d ∷ cs) ≡ false → IsTokenAtFront kind.Sign 2 (c ∷ d ∷ cs)
 two_found c d cs o s n = record {
   some = omega arith;
   within = omega arith;
@@ -232,25 +232,25 @@ two_strange c d cs o l h (suc (suc zero)) = other_form c (d ∷ []) o (sign_two 
 two_strange c d [] o l h (suc (suc (suc n))) = other_form c (d ∷ []) o (sign_two c d ∙ l)
 two_strange c d (e ∷ es) o l h (suc (suc (suc n))) = other_form c (d ∷ e ∷ take n es) o (sign_more c d e (take n es))
 
-abbrev judged : ℕ → Piece
+abbrev judged : ℕ → Scan
 judged n = cond (nat_eq n 0) (piece.Refused rule.L1 0) (piece.Token kind.Sign n)
 
-last_sign : (c : ℕ) (b : Bool) → Other c → short_sign c ≡ b → Found (judged (cond b 1 0)) (c ∷ [])
+last_sign : (c : ℕ) (b : Bool) → Other c → short_sign c ≡ b → IsScanOf (judged (cond b 1 0)) (c ∷ [])
 last_sign c true o e = one_found c [] e (last_longest c) refl
 last_sign c false o e = strange c [] o (one_strange c o e)
 
 short_found : (c d : ℕ) (cs : List ℕ) (b : Bool) → Other c → begins_comment (c ∷ d ∷ cs) ≡ false → long_sign c d ≡ false → short_sign c ≡ b →
-    Found (judged (cond b 1 0)) (c ∷ d ∷ cs)
+    IsScanOf (judged (cond b 1 0)) (c ∷ d ∷ cs)
 short_found c d cs true o n l e = one_found c (d ∷ cs) e (one_longest c d cs o l) n
 short_found c d cs false o n l e = strange c (d ∷ cs) o (two_strange c d cs o l e)
 
 long_found : (c d : ℕ) (cs : List ℕ) (b : Bool) → Other c → begins_comment (c ∷ d ∷ cs) ≡ false → long_sign c d ≡ b →
-    Found (judged (cond b 2 (short_length c))) (c ∷ d ∷ cs)
+    IsScanOf (judged (cond b 2 (short_length c))) (c ∷ d ∷ cs)
 long_found c d cs true o n e = two_found c d cs o e n
 long_found c d cs false o n e = short_found c d cs (short_sign c) o n e refl
 
-sign_found : (c : ℕ) (cs : List ℕ) → Other c → begins_comment (c ∷ cs) ≡ false → Found (sign_piece (c ∷ cs)) (c ∷ cs)
-unfolding sign_piece
+sign_found : (c : ℕ) (cs : List ℕ) → Other c → begins_comment (c ∷ cs) ≡ false → IsScanOf (scan_sign (c ∷ cs)) (c ∷ cs)
+unfolding scan_sign
 sign_found c [] o n = last_sign c (short_sign c) o refl
 sign_found c (d ∷ ds) o n = long_found c d ds (long_sign c d) o n refl
 
@@ -263,52 +263,52 @@ neither false b c e f = refl
 no_comment_of : (c d : ℕ) (cs : List ℕ) → begins_line (c ∷ d ∷ cs) ≡ false → begins_block (c ∷ d ∷ cs) ≡ false → begins_comment (c ∷ d ∷ cs) ≡ false
 no_comment_of c d cs l b = neither (nat_eq c 47) (nat_eq d 47) (nat_eq d 42) l b
 
-line_case : (c d : ℕ) (cs : List ℕ) → begins_line (c ∷ d ∷ cs) ≡ true → Found (line_piece (c ∷ d ∷ cs)) (c ∷ d ∷ cs)
+line_case : (c d : ℕ) (cs : List ℕ) → begins_line (c ∷ d ∷ cs) ≡ true → IsScanOf (scan_line (c ∷ d ∷ cs)) (c ∷ d ∷ cs)
 line_case c d cs h =
     let p = and_parts (nat_eq c 47) (nat_eq d 47) h in
     let s : 47 ∷ 47 ∷ cs ≡ c ∷ d ∷ cs = ap (λ x. x ∷ 47 ∷ cs) (sym (eqb-true c 47 p.0)) ∙ ap (λ x. c ∷ x ∷ cs) (sym (eqb-true d 47 p.1)) in
-    subst (λ t. Found (line_piece t) t) s (line_found cs)
+    subst (λ t. IsScanOf (scan_line t) t) s (line_found cs)
 
-block_case : (c d : ℕ) (cs : List ℕ) → begins_block (c ∷ d ∷ cs) ≡ true → Found (block_piece (c ∷ d ∷ cs)) (c ∷ d ∷ cs)
+block_case : (c d : ℕ) (cs : List ℕ) → begins_block (c ∷ d ∷ cs) ≡ true → IsScanOf (scan_block (c ∷ d ∷ cs)) (c ∷ d ∷ cs)
 block_case c d cs h =
     let p = and_parts (nat_eq c 47) (nat_eq d 42) h in
     let s : 47 ∷ 42 ∷ cs ≡ c ∷ d ∷ cs = ap (λ x. x ∷ 42 ∷ cs) (sym (eqb-true c 47 p.0)) ∙ ap (λ x. c ∷ x ∷ cs) (sym (eqb-true d 42 p.1)) in
-    subst (λ t. Found (block_piece t) t) s (block_found cs)
+    subst (λ t. IsScanOf (scan_block t) t) s (block_found cs)
 
 other_at : (c d : ℕ) (cs : List ℕ) (l b : Bool) → Other c → begins_line (c ∷ d ∷ cs) ≡ l → begins_block (c ∷ d ∷ cs) ≡ b →
-    Found (cond l (line_piece (c ∷ d ∷ cs)) (cond b (block_piece (c ∷ d ∷ cs)) (sign_piece (c ∷ d ∷ cs)))) (c ∷ d ∷ cs)
+    IsScanOf (cond l (scan_line (c ∷ d ∷ cs)) (cond b (scan_block (c ∷ d ∷ cs)) (scan_sign (c ∷ d ∷ cs)))) (c ∷ d ∷ cs)
 other_at c d cs true b o e f = line_case c d cs e
 other_at c d cs false true o e f = block_case c d cs f
 other_at c d cs false false o e f = sign_found c (d ∷ cs) o (no_comment_of c d cs e f)
 
-other_found : (c : ℕ) (cs : List ℕ) → Other c → Found (other_piece (c ∷ cs)) (c ∷ cs)
-unfolding other_piece
+other_found : (c : ℕ) (cs : List ℕ) → Other c → IsScanOf (scan_other (c ∷ cs)) (c ∷ cs)
+unfolding scan_other
 other_found c [] o = sign_found c [] o refl
 other_found c (d ∷ ds) o = other_at c d ds (begins_line (c ∷ d ∷ ds)) (begins_block (c ∷ d ∷ ds)) o refl refl
 
-quote_found : (c : ℕ) (cs : List ℕ) → nat_eq c 34 ≡ true → Found (string_piece (c ∷ cs)) (c ∷ cs)
-quote_found c cs h = subst (λ x. Found (string_piece (x ∷ cs)) (x ∷ cs)) (sym (eqb-true c 34 h)) (string_found cs)
+quote_found : (c : ℕ) (cs : List ℕ) → nat_eq c 34 ≡ true → IsScanOf (scan_string (c ∷ cs)) (c ∷ cs)
+quote_found c cs h = subst (λ x. IsScanOf (scan_string (x ∷ cs)) (x ∷ cs)) (sym (eqb-true c 34 h)) (string_found cs)
 
 found_at : (c : ℕ) (cs : List ℕ) (b l d q : Bool) → is_blank c ≡ b → is_letter c ≡ l → is_digit c ≡ d → nat_eq c 34 ≡ q →
-    Found (cond b (piece.Between 1) (cond l (name_piece (c ∷ cs)) (cond d (number_piece (c ∷ cs)) (cond q (string_piece (c ∷ cs)) (other_piece (c ∷ cs)))))) (c ∷ cs)
+    IsScanOf (cond b (piece.Between 1) (cond l (scan_name (c ∷ cs)) (cond d (scan_number (c ∷ cs)) (cond q (scan_string (c ∷ cs)) (scan_other (c ∷ cs)))))) (c ∷ cs)
 found_at c cs true l d q e f g h = blank_found c cs e
 found_at c cs false true d q e f g h = name_found c cs f
 found_at c cs false false true q e f g h = number_found c cs g
 found_at c cs false false false true e f g h = quote_found c cs h
 found_at c cs false false false false e f g h = other_found c cs record { blank = e; letter = f; digit = g; quote = h }
 
-pub found : (c : ℕ) (cs : List ℕ) → Found (piece_from c (c ∷ cs)) (c ∷ cs)
-unfolding piece_from
+pub found : (c : ℕ) (cs : List ℕ) → IsScanOf (scan_from c (c ∷ cs)) (c ∷ cs)
+unfolding scan_from
 found c cs = found_at c cs (is_blank c) (is_letter c) (is_digit c) (nat_eq c 34) refl refl refl refl
 
-some_first : (text : List ℕ) → 0 < length text → Found (piece_from (get_or text 0 0) text) text
+some_first : (text : List ℕ) → 0 < length text → IsScanOf (scan_from (get_or text 0 0) text) text
 some_first [] h = absurd (omega arith)
 some_first (c ∷ cs) h = found c cs
 
 -- what is found behind so many bytes
-pub found_behind : (text : List ℕ) (at : ℕ) (of : Piece) → at < length text →
-    of ≡ piece_from (get_or (take (length text - at) (drop at text)) 0 0) (take (length text - at) (drop at text)) → Found of (drop at text)
+pub found_behind : (text : List ℕ) (at : ℕ) (of : Scan) → at < length text →
+    of ≡ scan_from (get_or (take (length text - at) (drop at text)) 0 0) (take (length text - at) (drop at text)) → IsScanOf of (drop at text)
 found_behind text at of h e =
     let s : take (length text - at) (drop at text) ≡ drop at text = take_rest text at in
-    let k : of ≡ piece_from (get_or (drop at text) 0 0) (drop at text) = e ∙ ap (λ t. piece_from (get_or t 0 0) t) s in
-    subst (λ p. Found p (drop at text)) (sym k) (some_first (drop at text) (omega (arith, length-drop at text)))
+    let k : of ≡ scan_from (get_or (drop at text) 0 0) (drop at text) = e ∙ ap (λ t. scan_from (get_or t 0 0) t) s in
+    subst (λ p. IsScanOf p (drop at text)) (sym k) (some_first (drop at text) (omega (arith, length-drop at text)))

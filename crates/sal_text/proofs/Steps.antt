@@ -7,9 +7,9 @@ use Rattle.sal_text.specs.declared.token.LexRule.{LexRule}
 use Rattle.sal_text.specs.declared.token.LexRule.TheVariants as rule
 use Rattle.sal_text.specs.declared.token.Token.{Token}
 use Rattle.sal_text.specs.Values.{bad_escape_from, is_escape}
-use Rattle.sal_text.specs.Tokens.{What, Blank, Line, Block, Of, Part, Stands, Cuts, with_token, tokens_from, Covers}
+use Rattle.sal_text.specs.Tokens.{PartKind, Blank, Line, Block, Of, Part, Stands, Cuts, with_token, tokens_from, Covers}
 use Rattle.sal_text.specs.Refusals.{Violates, IsCutShort, Refuses}
-use Rattle.sal_text.specs.Found.{Between, Standing}
+use Rattle.sal_text.specs.code.Scanned.{IsBetween, IsTokenAtFront}
 
 abbrev total : List Part → ℕ
 total [] = 0
@@ -37,7 +37,7 @@ total_more : (parts : List Part) (part : Part) → total (parts ++ part ∷ []) 
 total_more [] part = omega arith
 total_more (p ∷ ps) part = let h = total_more ps part in omega arith
 
-with_more : (what : What) (start end : ℕ) (tokens more : List Token) → with_token what start end (tokens ++ more) ≡ with_token what start end tokens ++ more
+with_more : (what : PartKind) (start end : ℕ) (tokens more : List Token) → with_token what start end (tokens ++ more) ≡ with_token what start end tokens ++ more
 with_more Blank start end tokens more = refl
 with_more Line start end tokens more = refl
 with_more Block start end tokens more = refl
@@ -58,10 +58,10 @@ long_take : (n : ℕ) (cs : List ℕ) → n ≤ length cs → length (take n cs)
 long_take n cs h = omega (arith, length-take n cs)
 
 -- the part of n bytes at this place
-abbrev part_of : What → ℕ → ℕ → List ℕ → Part
+abbrev part_of : PartKind → ℕ → ℕ → List ℕ → Part
 part_of what n at text = record { what = what; bytes = take n (drop at text) }
 
-reached_more : (text : List ℕ) (at n : ℕ) (tokens : List Token) (what : What) → n ≤ length (drop at text) → Stands what (take n (drop at text)) (drop n (drop at text)) →
+reached_more : (text : List ℕ) (at n : ℕ) (tokens : List Token) (what : PartKind) → n ≤ length (drop at text) → Stands what (take n (drop at text)) (drop n (drop at text)) →
     Reached text at tokens → Reached text (at + n) (tokens ++ with_token what at (at + n) [])
 reached_more text at n tokens what w s r =
     let part : Part = record { what = what; bytes = take n (drop at text) } in
@@ -80,11 +80,11 @@ reached_more text at n tokens what w s r =
           ∙ ap (λ k. tokens ++ with_token what at (at + k) []) long));
     }
 
-pub reached_between : (text : List ℕ) (at n : ℕ) (tokens : List Token) → Reached text at tokens → Between n (drop at text) → Reached text (at + n) tokens
+pub reached_between : (text : List ℕ) (at n : ℕ) (tokens : List Token) → Reached text at tokens → IsBetween n (drop at text) → Reached text (at + n) tokens
 reached_between text at n tokens r b =
     subst (Reached text (at + n)) (ap (λ ts. tokens ++ ts) (b.quiet at (at + n) []) ∙ append-nil tokens) (reached_more text at n tokens b.what b.within b.stands r)
 
-pub reached_token : (text : List ℕ) (at n : ℕ) (tokens : List Token) (kind : Kind) → Reached text at tokens → Standing kind n (drop at text) →
+pub reached_token : (text : List ℕ) (at n : ℕ) (tokens : List Token) (kind : Kind) → Reached text at tokens → IsTokenAtFront kind n (drop at text) →
     Reached text (at + n) (tokens ++ record { kind = kind; start = at; end = at + n } ∷ [])
 reached_token text at n tokens kind r b = reached_more text at n tokens (Of kind) b.within b.stands r
 

@@ -8,7 +8,7 @@ use Rattle.sal_ast.specs.declared.lexeme.Kind.TheVariants as kind
 use Rattle.sal_ast.specs.Lexemes.{is_lexeme}
 use Rattle.sal_text.specs.declared.token.Token.{Token}
 use Rattle.sal_text.specs.Values.{lexeme_text}
-use Rattle.sal_text.specs.Tokens.{What, Blank, Line, Block, Of, Part, Stands, IsToken, Cuts, with_token, tokens_from, Covers, has_form, is_kept}
+use Rattle.sal_text.specs.Tokens.{PartKind, Blank, Line, Block, Of, Part, Stands, IsToken, Cuts, with_token, tokens_from, Covers, has_form, is_valid}
 use Rattle.sal_text.specs.Spans.{SpanIsInside}
 use Rattle.sal_text.specs.Standing.{StandsIn, TokensStand, SpansAreInside}
 
@@ -16,7 +16,7 @@ abbrev AllStand : List ℕ → List Token → Type 0
 AllStand text [] = Unit {0}
 AllStand text (token ∷ tokens) = StandsIn text token × AllStand text tokens
 
-lexeme_is : (of : Kind) (bytes : List ℕ) → has_form of bytes ≡ true → is_kept of bytes ≡ true → is_lexeme of (lexeme_text of bytes) ≡ true
+lexeme_is : (of : Kind) (bytes : List ℕ) → has_form of bytes ≡ true → is_valid of bytes ≡ true → is_lexeme of (lexeme_text of bytes) ≡ true
 lexeme_is kind.Word bytes h k = h
 lexeme_is kind.Id bytes h k = h
 lexeme_is kind.Number bytes h k = k
@@ -36,11 +36,11 @@ stands_in of front bytes rest t =
       ordered = omega arith;
       inside = omega (arith, length-append front (bytes ++ rest), length-append bytes rest);
       form = subst (λ b. has_form of b ≡ true) e t.form;
-      kept = subst (λ b. is_kept of b ≡ true) e t.kept;
+      kept = subst (λ b. is_valid of b ≡ true) e t.kept;
       lexeme = subst (λ b. is_lexeme of (lexeme_text of b) ≡ true) e (lexeme_is of bytes t.form t.kept);
     }
 
-one_stands : (what : What) (front bytes rest : List ℕ) (tokens : List Token) → Stands what bytes rest → AllStand (front ++ (bytes ++ rest)) tokens →
+one_stands : (what : PartKind) (front bytes rest : List ℕ) (tokens : List Token) → Stands what bytes rest → AllStand (front ++ (bytes ++ rest)) tokens →
     AllStand (front ++ (bytes ++ rest)) (with_token what (length front) (length front + length bytes) tokens)
 one_stands Blank front bytes rest tokens s a = a
 one_stands Line front bytes rest tokens s a = a

@@ -1,8 +1,7 @@
 pub mod Values
 pub mod Tokens
 pub mod Spans
-pub mod Reading
+pub mod code
 pub mod Refusals
-pub mod Found
-pub mod Answered
+pub mod Uniqueness
 pub mod Standing

@@ -35,15 +35,15 @@ is_digits (c ∷ cs) = list_all is_digit (c ∷ cs)
 -- behind the first quote of a string: the last byte is the first quote that no backslash takes
 -- with it, and there is no line feed; `escaped` says that a backslash takes the first byte
 -- (of a longer character the other bytes are neither quote nor backslash nor line feed)
-unfoldable pub is_closed : Bool → List ℕ → Bool
-is_closed escaped [] = false
-is_closed true (c ∷ cs) = is_in_line c && is_closed false cs
-is_closed false (c ∷ cs) = cond (nat_eq c 34) (is_empty cs) (is_in_line c && is_closed (nat_eq c 92) cs)
+unfoldable pub is_string_rest : Bool → List ℕ → Bool
+is_string_rest escaped [] = false
+is_string_rest true (c ∷ cs) = is_in_line c && is_string_rest false cs
+is_string_rest false (c ∷ cs) = cond (nat_eq c 34) (is_empty cs) (is_in_line c && is_string_rest (nat_eq c 92) cs)
 
 -- from a quote to its closing quote
 abbrev pub is_string : List ℕ → Bool
 is_string [] = false
-is_string (c ∷ cs) = nat_eq c 34 && is_closed false cs
+is_string (c ∷ cs) = nat_eq c 34 && is_string_rest false cs
 
 -- the form of a token of this kind
 abbrev pub has_form : Kind → List ℕ → Bool
@@ -58,12 +58,12 @@ abbrev pub is_form : List ℕ → Bool
 is_form bytes = is_name bytes || is_digits bytes || is_string bytes || is_sign bytes
 
 -- of a number that its digits are in range and have no leading zero, of a string that its escapes are good
-abbrev pub is_kept : Kind → List ℕ → Bool
-is_kept kind.Word bytes = true
-is_kept kind.Id bytes = true
-is_kept kind.Number bytes = is_number bytes
-is_kept kind.Str bytes = is_none (bad_escape bytes)
-is_kept kind.Sign bytes = true
+abbrev pub is_valid : Kind → List ℕ → Bool
+is_valid kind.Word bytes = true
+is_valid kind.Id bytes = true
+is_valid kind.Number bytes = is_number bytes
+is_valid kind.Str bytes = is_none (bad_escape bytes)
+is_valid kind.Sign bytes = true
 
 -- no longer token begins where this one does
 abbrev pub IsLongest : List ℕ → List ℕ → Type 0
@@ -80,7 +80,7 @@ pub record IsToken (kind : Kind) (bytes rest : List ℕ) : Type 0 where
   pub form : has_form kind bytes ≡ true
   pub longest : IsLongest bytes rest
   pub no_comment : begins_comment (bytes ++ rest) ≡ false
-  pub kept : is_kept kind bytes ≡ true
+  pub kept : is_valid kind bytes ≡ true
 
 -- ---- comments
 
@@ -108,15 +108,15 @@ pub record IsBlock (bytes : List ℕ) : Type 0 where
 
 -- ---- the cut of a text
 
-pub data What : Type 0 where
-  Blank : What
-  Line : What
-  Block : What
-  Of : Kind → What
+pub data PartKind : Type 0 where
+  Blank : PartKind
+  Line : PartKind
+  Block : PartKind
+  Of : Kind → PartKind
 
 -- a blank, a comment or a token
 pub record Part : Type 0 where
-  pub what : What
+  pub what : PartKind
   pub bytes : List ℕ
 
 abbrev pub is_blanks : List ℕ → Bool
@@ -124,7 +124,7 @@ is_blanks [] = false
 is_blanks (c ∷ cs) = is_blank c && is_empty cs
 
 -- such a part stands before the rest
-abbrev pub Stands : What → List ℕ → List ℕ → Type 0
+abbrev pub Stands : PartKind → List ℕ → List ℕ → Type 0
 Stands Blank bytes rest = is_blanks bytes ≡ true
 Stands Line bytes rest = IsLine bytes rest
 Stands Block bytes rest = IsBlock bytes
@@ -136,7 +136,7 @@ Cuts [] text rest = text ≡ rest
 Cuts (part ∷ parts) text rest =
     (behind : List ℕ) × ((text ≡ part.bytes ++ behind) × Stands part.what part.bytes behind × Cuts parts behind rest)
 
-abbrev pub with_token : What → ℕ → ℕ → List Token → List Token
+abbrev pub with_token : PartKind → ℕ → ℕ → List Token → List Token
 with_token Blank start end tokens = tokens
 with_token Line start end tokens = tokens
 with_token Block start end tokens = tokens

@@ -4,7 +4,7 @@ ghost use Rattle.std.specs.Prelude.{◌≡◌, ◌≤◌, length};
 ghost use Rattle.sal_ast.specs.Lexemes.{is_letter, is_digit, is_name_byte};
 ghost use Rattle.sal_text.specs.Tokens.{is_blank};
 ghost use Rattle.sal_text.specs.Values.{is_escape};
-ghost use Rattle.sal_text.specs.Reading.{run_length};
+ghost use Rattle.sal_text.specs.code.Scanning.{run_length};
 
 /// Space, tab, carriage return and line feed.
 pub fn is_blank(byte: u8) -> bool

@@ -2,7 +2,7 @@
 
 ghost use Rattle.std.specs.Prelude.{◌≡◌, ◌≤◌, ◌&&◌, nat_eq, length, IfSome};
 ghost use Rattle.sal_text.specs.Tokens.{is_in_line, begins_slash};
-ghost use Rattle.sal_text.specs.Reading.{run_length, block_length};
+ghost use Rattle.sal_text.specs.code.Scanning.{run_length, block_length};
 
 /// How many bytes of a line are left.
 pub fn line_length(text: &[u8]) -> usize

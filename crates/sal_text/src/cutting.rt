@@ -4,9 +4,9 @@ ghost use Rattle.std.specs.Prelude.{◌≡◌, ◌<◌, ◌≤◌, length, drop,
 ghost use Rattle.std.specs.Str.{IsUtf8};
 ghost use Rattle.sal_text.specs.Tokens.{Covers};
 ghost use Rattle.sal_text.specs.Refusals.{IsRefusal};
-ghost use Rattle.sal_text.specs.Found.{Found};
+ghost use Rattle.sal_text.specs.code.Scanned.{IsScanOf};
 
-use crate::piece::{Piece, piece_of};
+use crate::piece::{Scan, scan};
 use crate::token::{LexFault, LexRule, Token, Tokens};
 use sal_ast::LONGEST_PROGRAM;
 use sal_value::List;
@@ -15,11 +15,11 @@ use std::str;
 
 /// The part of a text at a byte.
 #[tactic(auto, using(crate::proofs::Sound::found_behind))]
-fn part_at(source: &[u8], at: usize) -> Piece
+fn part_at(source: &[u8], at: usize) -> Scan
     requires { at < length source.now }
-    ensures { Found result (drop at source.now) }
+    ensures { IsScanOf result (drop at source.now) }
 {
-    piece_of(&source[at..])
+    scan(&source[at..])
 }
 
 fn cut(alloc: Global, source: &[u8]) -> Result<List<Token>, LexFault>
@@ -32,8 +32,8 @@ fn cut(alloc: Global, source: &[u8]) -> Result<List<Token>, LexFault>
     let mut at = 0;
     'parts: while at < source.len() {
         match part_at(source, at) {
-            Piece::Between(count) => at += count,
-            Piece::Token(kind, count) => {
+            Scan::Between(count) => at += count,
+            Scan::Token(kind, count) => {
                 let start = at;
                 at += count;
                 items.push(Token {
@@ -42,7 +42,7 @@ fn cut(alloc: Global, source: &[u8]) -> Result<List<Token>, LexFault>
                     end: at as u32,
                 })?;
             }
-            Piece::Refused(rule, place) => {
+            Scan::Refused(rule, place) => {
                 let at = (at + place) as u32;
                 return Err(LexFault::Refused { rule, at });
             }

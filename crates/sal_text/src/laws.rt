@@ -1,11 +1,11 @@
 //! What holds of every text.
 
-ghost use Rattle.sal_text.specs.Answered.{OneCover, CoveredOrRefused, NoneOfBoth, OneRefusal};
+ghost use Rattle.sal_text.specs.Uniqueness.{CoversAreUnique, CoveredOrRefused, NeverCoveredAndRefused, RefusalsAreUnique};
 ghost use Rattle.sal_text.specs.Standing.{TokensStand, SpansAreInside};
 
 /// No two lists of tokens cover a text.
 pub fn one_list_covers()
-    ensures { OneCover }
+    ensures { CoversAreUnique }
 {}
 
 /// Tokens cover a text, or it is refused.
@@ -15,12 +15,12 @@ pub fn covered_or_refused()
 
 /// A text that is covered isn't refused.
 pub fn covered_is_not_refused()
-    ensures { NoneOfBoth }
+    ensures { NeverCoveredAndRefused }
 {}
 
 /// A text has one refusal at most.
 pub fn one_refusal_stands()
-    ensures { OneRefusal }
+    ensures { RefusalsAreUnique }
 {}
 
 /// Each token stands in its text, with the bytes of its kind.

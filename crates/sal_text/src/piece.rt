@@ -2,20 +2,20 @@
 
 ghost use Rattle.std.specs.Prelude.{◌≡◌, ◌<◌, ◌≤◌, length, slice_index};
 ghost use Rattle.std.specs.Bool.{OnTrue};
-ghost use Rattle.sal_text.specs.Reading.{name_piece, number_piece, string_piece, line_piece, block_piece, sign_piece, begins_line, begins_block, other_piece, piece_from};
+ghost use Rattle.sal_text.specs.code.Scanning.{scan_name, scan_number, scan_string, scan_line, scan_block, scan_sign, begins_line, begins_block, scan_other, scan_from};
 
 use crate::bytes::{digits_length, is_blank, is_digit, is_letter, name_length};
 use crate::comments::{block_length, line_length};
 use crate::numbers::is_number;
 use crate::signs::sign_length;
-use crate::strings::{bad_escape, closed_length};
+use crate::strings::{bad_escape, length_to_quote};
 use crate::token::LexRule;
 use crate::words::is_word;
 use sal_ast::Kind;
 
 /// What stands at the front of a text.
 #[derive(Clone, Copy, Drop)]
-pub enum Piece {
+pub enum Scan {
     /// A blank or a comment, of so many bytes.
     Between(usize),
     /// A token of so many bytes.
@@ -24,9 +24,9 @@ pub enum Piece {
     Refused(LexRule, usize),
 }
 
-#[tactic(auto, unfolding(crate::specs::Reading::name_piece))]
-fn name_piece(text: &[u8]) -> Piece
-    ensures { result ≡ name_piece text.now }
+#[tactic(auto, unfolding(crate::specs::code::Scanning::scan_name))]
+fn scan_name(text: &[u8]) -> Scan
+    ensures { result ≡ scan_name text.now }
 {
     let count = name_length(text);
     let kind = if is_word(&text[..count]) {
@@ -34,63 +34,63 @@ fn name_piece(text: &[u8]) -> Piece
     } else {
         Kind::Id
     };
-    Piece::Token(kind, count)
+    Scan::Token(kind, count)
 }
 
-#[tactic(auto, using(crate::proofs::Runs::run_all), unfolding(crate::specs::Reading::number_piece))]
-fn number_piece(text: &[u8]) -> Piece
-    ensures { result ≡ number_piece text.now }
+#[tactic(auto, using(crate::proofs::Runs::run_all), unfolding(crate::specs::code::Scanning::scan_number))]
+fn scan_number(text: &[u8]) -> Scan
+    ensures { result ≡ scan_number text.now }
 {
     let count = digits_length(text);
     if is_number(&text[..count]) {
-        Piece::Token(Kind::Number, count)
+        Scan::Token(Kind::Number, count)
     } else {
-        Piece::Refused(LexRule::L3, 0)
+        Scan::Refused(LexRule::L3, 0)
     }
 }
 
-#[tactic(auto, unfolding(crate::specs::Reading::string_piece))]
-fn string_piece(text: &[u8]) -> Piece
+#[tactic(auto, unfolding(crate::specs::code::Scanning::scan_string))]
+fn scan_string(text: &[u8]) -> Scan
     requires { 0 < length text.now }
-    ensures { result ≡ string_piece text.now }
+    ensures { result ≡ scan_string text.now }
 {
-    let Some(count) = closed_length(&text[1..]) else {
-        return Piece::Refused(LexRule::L2, 0);
+    let Some(count) = length_to_quote(&text[1..]) else {
+        return Scan::Refused(LexRule::L2, 0);
     };
     match bad_escape(&text[..count + 1]) {
-        None => Piece::Token(Kind::Str, count + 1),
-        Some(at) => Piece::Refused(LexRule::L5, at),
+        None => Scan::Token(Kind::Str, count + 1),
+        Some(at) => Scan::Refused(LexRule::L5, at),
     }
 }
 
-#[tactic(auto, unfolding(crate::specs::Reading::line_piece))]
-fn line_piece(text: &[u8]) -> Piece
+#[tactic(auto, unfolding(crate::specs::code::Scanning::scan_line))]
+fn scan_line(text: &[u8]) -> Scan
     requires { 2 ≤ length text.now }
-    ensures { result ≡ line_piece text.now }
+    ensures { result ≡ scan_line text.now }
 {
-    Piece::Between(line_length(&text[2..]) + 2)
+    Scan::Between(line_length(&text[2..]) + 2)
 }
 
-#[tactic(auto, unfolding(crate::specs::Reading::block_piece))]
-fn block_piece(text: &[u8]) -> Piece
+#[tactic(auto, unfolding(crate::specs::code::Scanning::scan_block))]
+fn scan_block(text: &[u8]) -> Scan
     requires { 2 ≤ length text.now }
-    ensures { result ≡ block_piece text.now }
+    ensures { result ≡ scan_block text.now }
 {
     match block_length(&text[2..]) {
-        None => Piece::Refused(LexRule::L4, 0),
-        Some(count) => Piece::Between(count + 2),
+        None => Scan::Refused(LexRule::L4, 0),
+        Some(count) => Scan::Between(count + 2),
     }
 }
 
-#[tactic(auto, unfolding(crate::specs::Reading::sign_piece))]
-fn sign_piece(text: &[u8]) -> Piece
-    ensures { result ≡ sign_piece text.now }
+#[tactic(auto, unfolding(crate::specs::code::Scanning::scan_sign))]
+fn scan_sign(text: &[u8]) -> Scan
+    ensures { result ≡ scan_sign text.now }
 {
     let count = sign_length(text);
     if count == 0 {
-        Piece::Refused(LexRule::L1, 0)
+        Scan::Refused(LexRule::L1, 0)
     } else {
-        Piece::Token(Kind::Sign, count)
+        Scan::Token(Kind::Sign, count)
     }
 }
 
@@ -116,35 +116,35 @@ fn begins_block(text: &[u8]) -> bool
     }
 }
 
-#[tactic(auto, unfolding(crate::specs::Reading::other_piece))]
-fn other_piece(text: &[u8]) -> Piece
-    ensures { result ≡ other_piece text.now }
+#[tactic(auto, unfolding(crate::specs::code::Scanning::scan_other))]
+fn scan_other(text: &[u8]) -> Scan
+    ensures { result ≡ scan_other text.now }
 {
     if begins_line(text) {
-        line_piece(text)
+        scan_line(text)
     } else if begins_block(text) {
-        block_piece(text)
+        scan_block(text)
     } else {
-        sign_piece(text)
+        scan_sign(text)
     }
 }
 
 /// The part that the text begins with.
-#[tactic(auto, unfolding(crate::specs::Reading::piece_from))]
-pub fn piece_of(text: &[u8]) -> Piece
+#[tactic(auto, unfolding(crate::specs::code::Scanning::scan_from))]
+pub fn scan(text: &[u8]) -> Scan
     requires { 0 < length text.now }
-    ensures { result ≡ piece_from (slice_index text.now 0) text.now }
+    ensures { result ≡ scan_from (slice_index text.now 0) text.now }
 {
     let first = text[0];
     if is_blank(first) {
-        Piece::Between(1)
+        Scan::Between(1)
     } else if is_letter(first) {
-        name_piece(text)
+        scan_name(text)
     } else if is_digit(first) {
-        number_piece(text)
+        scan_number(text)
     } else if first == b'"' {
-        string_piece(text)
+        scan_string(text)
     } else {
-        other_piece(text)
+        scan_other(text)
     }
 }

@@ -1,7 +1,7 @@
 //! Signs.
 
 ghost use Rattle.std.specs.Prelude.{◌≡◌};
-ghost use Rattle.sal_text.specs.Reading.{short_sign, long_sign, short_length, sign_length};
+ghost use Rattle.sal_text.specs.code.Scanning.{short_sign, long_sign, short_length, sign_length};
 
 fn is_short_sign(byte: u8) -> bool
     ensures { result ≡ short_sign byte }

@@ -2,14 +2,14 @@
 
 ghost use Rattle.std.specs.Prelude.{◌≡◌, ◌≤◌, length, false, IfSome};
 ghost use Rattle.sal_text.specs.Values.{bad_escape};
-ghost use Rattle.sal_text.specs.Reading.{closed_length};
+ghost use Rattle.sal_text.specs.code.Scanning.{length_to_quote};
 
 use crate::bytes::is_escape;
 
 /// How many bytes stand behind a quote up to the quote that closes its string, with it.
-#[tactic(auto, unfolding(crate::specs::Reading::closed_length))]
-pub fn closed_length(text: &[u8]) -> Option<usize>
-    ensures value { result ≡ closed_length false text.now }
+#[tactic(auto, unfolding(crate::specs::code::Scanning::length_to_quote))]
+pub fn length_to_quote(text: &[u8]) -> Option<usize>
+    ensures value { result ≡ length_to_quote false text.now }
     ensures within { IfSome result (λ n. n ≤ length text.now) }
 {
     let mut escaped = false;

@@ -3,7 +3,7 @@
 ghost use Rattle.std.specs.Prelude.{◌≡◌};
 ghost use Rattle.std.specs.Str.{bytes_eq};
 ghost use Rattle.sal_ast.specs.Lexemes.{is_word};
-ghost use Rattle.sal_text.specs.Reading.{first_words, second_words, third_words, last_words};
+ghost use Rattle.sal_text.specs.code.Scanning.{first_words, second_words, third_words, last_words};
 
 fn same(a: &[u8], b: &[u8]) -> bool
     ensures { result ≡ bytes_eq a.now b.now }

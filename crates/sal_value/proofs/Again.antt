@@ -16,7 +16,7 @@ use Rattle.sal_value.specs.declared.value.Value.TheOpen.{Value-F}
 use Rattle.sal_value.specs.Names.{uan_text, is_uan, is_host, is_port, is_uan_path}
 use Rattle.sal_value.specs.Spelling.{text_bytes, anon_bytes, name_spelling, name_is_spelled, spelling, fits, is_spelled}
 use Rattle.sal_value.specs.Coding.{is_i32, name_in_range, range_step, in_range}
-use Rattle.sal_value.specs.Decoding.{Reading, ◌>>=◌, wrong, bytes_at, number_at, bool_at, text_at, canonical_uan, named, uan_at, anon_at, name_at, items_at, count_at, array_at, tagged_at, value_at, placed, decoded_name, decoded_value}
+use Rattle.sal_value.specs.Decoding.{Reading, ◌>>=◌, wrong, bytes_at, number_at, bool_at, text_at, canonical_uan, uan_or_wrong, uan_at, anon_at, name_at, items_at, count_at, array_at, tagged_at, value_at, with_offset, decoded_name, decoded_value}
 use Rattle.sal_value.proofs.Bytes.{both}
 use Rattle.sal_value.proofs.Canonical.{uan_of_text}
 use Rattle.sal_value.proofs.Texts.{length_uan_text, host_short, path_short}
@@ -62,9 +62,9 @@ uan_again : (u : Uan) (rest : List ℕ) → is_uan u ≡ true → uan_at (text_b
 unfolding uan_at
 uan_again u rest h =
     let text : List ℕ = uan_text u in
-    ap (λ (r : Reading ℕ). r >>= λ n. bytes_at n.0 n.1 >>= λ t. named n.1 t.1 (canonical_uan t.0)) (text_front text rest (uan_short u h))
-    ∙ ap (λ (r : Reading (List ℕ)). r >>= λ t. named (text ++ rest) t.1 (canonical_uan t.0)) (bytes_again (length text) text rest refl)
-    ∙ ap (named (text ++ rest) rest) (uan_of_text u h)
+    ap (λ (r : Reading ℕ). r >>= λ n. bytes_at n.0 n.1 >>= λ t. uan_or_wrong n.1 t.1 (canonical_uan t.0)) (text_front text rest (uan_short u h))
+    ∙ ap (λ (r : Reading (List ℕ)). r >>= λ t. uan_or_wrong (text ++ rest) t.1 (canonical_uan t.0)) (bytes_again (length text) text rest refl)
+    ∙ ap (uan_or_wrong (text ++ rest) rest) (uan_of_text u h)
 
 anon_again : (theatre number : ℕ) (rest : List ℕ) → theatre < 2 ^ 32 → number < 2 ^ 64 → anon_at (anon_bytes theatre number ++ rest) ≡ Ok (name.Anon theatre number, rest)
 unfolding anon_at anon_bytes
@@ -195,10 +195,10 @@ value_again (suc d) w rest r f =
 
 -- ---- with places
 
-placed_again : {A : Type 0} (bytes rest : List ℕ) (x : A) (r : Reading A) → r ≡ Ok (x, rest) → placed (bytes ++ rest) r ≡ Ok (x, length bytes)
+placed_again : {A : Type 0} (bytes rest : List ℕ) (x : A) (r : Reading A) → r ≡ Ok (x, rest) → with_offset (bytes ++ rest) r ≡ Ok (x, length bytes)
 placed_again bytes rest x r e =
     let size : length (bytes ++ rest) - length rest ≡ length bytes = omega (arith, length-append bytes rest) in
-    ap (placed (bytes ++ rest)) e ∙ ap (λ n. Ok (x, n)) size
+    ap (with_offset (bytes ++ rest)) e ∙ ap (λ n. Ok (x, n)) size
 
 pub again_value : (w : Value) (rest : List ℕ) → in_range w ≡ true → is_spelled w ≡ true → decoded_value (spelling w ++ rest) ≡ Ok (w, length (spelling w))
 unfolding decoded_value

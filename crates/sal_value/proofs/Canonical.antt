@@ -12,7 +12,7 @@ use Rattle.std.proofs.lemmas.Slice.Eq.{bytes_eq-Decides}
 use Rattle.sal_value.specs.declared.name.Uan.{Uan}
 use Rattle.sal_value.specs.declared.name.NameFault.{NameFault}
 use Rattle.sal_value.specs.declared.name.NameFault.TheVariants as fault
-use Rattle.sal_value.specs.Names.{lowered, uan_text, is_host_byte, is_host, is_port, is_uan_path, NonePass, is_colon, is_slash, ReadsUan, is_uan}
+use Rattle.sal_value.specs.Names.{lower_case, uan_text, is_host_byte, is_host, is_port, is_uan_path, NonePass, is_colon, is_slash, ReadsUan, is_uan}
 use Rattle.sal_value.specs.Decoding.{cut_uan, canonical_uan}
 use Rattle.sal_value.proofs.Bytes.{both, host_parts}
 use Rattle.sal_value.proofs.Readings.{host_stays, digits_inside, port_range, names_are_read}
@@ -50,7 +50,7 @@ host_no_colon (b ∷ host) h =
 address_is : (u : Uan) → is_host u.host ≡ true → drop 6 (uan_text u) ≡ u.host ++ 58 ∷ (decimal u.port ++ 47 ∷ u.path)
 unfolding uan_text
 address_is u h =
-    append_assoc (lowered u.host) (58 ∷ decimal u.port) (47 ∷ u.path)
+    append_assoc (lower_case u.host) (58 ∷ decimal u.port) (47 ∷ u.path)
     ∙ ap (λ (z : List ℕ). z ++ 58 ∷ (decimal u.port ++ 47 ∷ u.path)) (host_stays u.host (host_parts u.host h).2)
 
 cut_again : (u : Uan) → is_uan u ≡ true → cut_uan (uan_text u) ≡ u

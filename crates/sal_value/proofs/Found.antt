@@ -17,7 +17,7 @@ use Rattle.sal_value.specs.declared.value.Value.TheVariants as v
 use Rattle.sal_value.specs.Names.{uan_text, is_uan}
 use Rattle.sal_value.specs.Spelling.{text_bytes, anon_bytes, name_spelling, name_is_spelled, spelling, fits, is_spelled}
 use Rattle.sal_value.specs.Coding.{IsBytes}
-use Rattle.sal_value.specs.Decoding.{Reading, ◌>>=◌, wrong, bytes_at, number_at, bool_at, text_at, canonical_uan, named, uan_at, anon_at, name_at, items_at, count_at, array_at, tagged_at, value_at, placed, decoded_name, decoded_value}
+use Rattle.sal_value.specs.Decoding.{Reading, ◌>>=◌, wrong, bytes_at, number_at, bool_at, text_at, canonical_uan, uan_or_wrong, uan_at, anon_at, name_at, items_at, count_at, array_at, tagged_at, value_at, with_offset, decoded_name, decoded_value}
 use Rattle.sal_value.proofs.Canonical.{uan_of_is}
 use Rattle.sal_value.proofs.Takes.{done, bytes_tail, bind_ok, ok_is, guard_ok, not_err, chosen, Takes, takes_then, takes_tag, bytes_taken, wide16, wide32, wide64, number_taken}
 use Rattle.sal_value.proofs.Equations.{spelling_null, spelling_int, spelling_bool, spelling_str, spelling_ref, spelling_array, fits_null, fits_int, fits_bool, fits_str, fits_ref, fits_array}
@@ -35,7 +35,7 @@ text_found bytes t behind rest n a b e =
 
 -- ---- names
 
-named_ok : (text rest : List ℕ) (o : Option Uan) (x : Uan × List ℕ) → named text rest o ≡ Ok x → (o ≡ Some x.0) × (rest ≡ x.1)
+named_ok : (text rest : List ℕ) (o : Option Uan) (x : Uan × List ℕ) → uan_or_wrong text rest o ≡ Ok x → (o ≡ Some x.0) × (rest ≡ x.1)
 named_ok text rest None x e = absurd (wrong_not_ok text x e)
 named_ok text rest (Some u) x e =
     let same = ok_is (u, rest) x e in
@@ -44,8 +44,8 @@ named_ok text rest (Some u) x e =
 uan_found : (bytes : List ℕ) (x : Uan × List ℕ) → IsBytes bytes → uan_at bytes ≡ Ok x → Takes bytes (text_bytes (uan_text x.0)) x.1 × (is_uan x.0 ≡ true)
 unfolding uan_at
 uan_found bytes x small e =
-    let a = bind_ok (number_at w16 bytes) (λ n. bytes_at n.0 n.1 >>= λ t. named n.1 t.1 (canonical_uan t.0)) x e in
-    let b = bind_ok (bytes_at a.0.0 a.0.1) (λ t. named a.0.1 t.1 (canonical_uan t.0)) x a.2 in
+    let a = bind_ok (number_at w16 bytes) (λ n. bytes_at n.0 n.1 >>= λ t. uan_or_wrong n.1 t.1 (canonical_uan t.0)) x e in
+    let b = bind_ok (bytes_at a.0.0 a.0.1) (λ t. uan_or_wrong a.0.1 t.1 (canonical_uan t.0)) x a.2 in
     let n = number_taken w16 (2 ^ 16) wide16 bytes a.0.0 a.0.1 small a.1 in
     let t = bytes_taken a.0.0 a.0.1 b.0.0 b.0.1 n.0.rest_fits b.1 in
     let c = named_ok a.0.1 b.0.1 (canonical_uan b.0.0) x b.2 in
@@ -256,7 +256,7 @@ value_found (suc depth) bytes x small e = tagged_found (suc depth) (array_at (va
 
 -- ---- with places
 
-placed_ok : {A : Type 0} (bytes : List ℕ) (r : Reading A) (x : A) (n : ℕ) → placed bytes r ≡ Ok (x, n) → (rest : List ℕ) × (r ≡ Ok (x, rest)) × (length bytes - length rest ≡ n)
+placed_ok : {A : Type 0} (bytes : List ℕ) (r : Reading A) (x : A) (n : ℕ) → with_offset bytes r ≡ Ok (x, n) → (rest : List ℕ) × (r ≡ Ok (x, rest)) × (length bytes - length rest ≡ n)
 placed_ok {A} bytes (Ok y) x n e =
     let same : (y.0, length bytes - length y.1) ≡ (x, n) = cc in
     let first : y.0 ≡ x = ap (λ (p : A × ℕ). p.0) same in

@@ -13,7 +13,7 @@ use Rattle.sal_value.specs.declared.name.Uan.{Uan}
 use Rattle.sal_value.specs.declared.name.Ual.{Ual}
 use Rattle.sal_value.specs.declared.name.NameFault.{NameFault}
 use Rattle.sal_value.specs.declared.name.NameFault.TheVariants as fault
-use Rattle.sal_value.specs.Names.{lowered, is_host, NonePass, FirstPasses, is_slash, ends_host, Kind, name_kind, locator_kind, Parts, IsPort, Written, Refused, ReadsUan, ReadsUal, is_port, until, onward, port_of, behind_scheme, good_parts, parts_behind, uan_from, ual_from, uan_of, ual_of, NamesAreGiven}
+use Rattle.sal_value.specs.Names.{lower_case, is_host, NonePass, FirstPasses, is_slash, ends_host, AddressForm, name_form, locator_form, Parts, IsPort, Writes, IsRefused, ReadsUan, ReadsUal, is_port, until, from_first, port_of, after_scheme, good_parts, parts_after_scheme, uan_from, ual_from, uan_of, ual_of, NamesAreGiven}
 use Rattle.sal_value.proofs.Bytes.{both}
 use Rattle.sal_value.proofs.Canonical.{some_if}
 use Rattle.sal_value.proofs.Readings.{first_ends, port_range}
@@ -26,11 +26,11 @@ until_at test [] (b ∷ x) none first = ap (λ t. if t then [] else b ∷ until 
 until_at test (b ∷ h) x none first =
     ap (λ t. if t then [] else b ∷ until test (h ++ x)) none.0 ∙ ap (λ (z : List ℕ). b ∷ z) (until_at test h x none.1 first)
 
-onward_at : (test : ℕ → Bool) (h x : List ℕ) → NonePass test h → FirstPasses test x → onward test (h ++ x) ≡ x
+onward_at : (test : ℕ → Bool) (h x : List ℕ) → NonePass test h → FirstPasses test x → from_first test (h ++ x) ≡ x
 onward_at test [] [] none first = refl
-onward_at test [] (b ∷ x) none first = ap (λ t. if t then b ∷ x else onward test x) first
+onward_at test [] (b ∷ x) none first = ap (λ t. if t then b ∷ x else from_first test x) first
 onward_at test (b ∷ h) x none first =
-    ap (λ t. if t then b ∷ (h ++ x) else onward test (h ++ x)) none.0 ∙ onward_at test h x none.1 first
+    ap (λ t. if t then b ∷ (h ++ x) else from_first test (h ++ x)) none.0 ∙ onward_at test h x none.1 first
 
 -- ---- schemes
 
@@ -39,17 +39,17 @@ none_unless : {A : Type 0} (b : Bool) (x : A) → (b ≡ true → ⊥) → (if b
 none_unless true x no' = absurd (no' refl)
 none_unless false x no' = refl
 
-pub behind_given : (scheme written rest : List ℕ) → lowered written ≡ scheme → behind_scheme scheme (written ++ rest) ≡ Some rest
+pub behind_given : (scheme written rest : List ℕ) → lower_case written ≡ scheme → after_scheme scheme (written ++ rest) ≡ Some rest
 behind_given scheme written rest e =
     let same : length written ≡ length scheme = omega (arith, length-map written to_ascii_lowercase, ap length e) in
     let front = take_at written rest (length scheme) same in
-    let is : bytes_eq (lowered (take (length scheme) (written ++ rest))) scheme ≡ true = (bytes_eq-Decides (lowered (take (length scheme) (written ++ rest))) scheme).1 (ap lowered front ∙ e) in
+    let is : bytes_eq (lower_case (take (length scheme) (written ++ rest))) scheme ≡ true = (bytes_eq-Decides (lower_case (take (length scheme) (written ++ rest))) scheme).1 (ap lower_case front ∙ e) in
     ap (λ b. if b then Some (drop (length scheme) (written ++ rest)) else None) is ∙ ap Some (drop_at written rest (length scheme) same)
 
-behind_none : (kind : Kind) (text : List ℕ) → Refused kind text fault.Scheme → behind_scheme kind.scheme text ≡ None
+behind_none : (kind : AddressForm) (text : List ℕ) → IsRefused kind text fault.Scheme → after_scheme kind.scheme text ≡ None
 behind_none kind text refused =
     let n : ℕ = length kind.scheme in
-    let front : List ℕ = lowered (take n text) in
+    let front : List ℕ = lower_case (take n text) in
     none_unless (bytes_eq front kind.scheme) (drop n text)
     (λ e. refused (take n text) (drop n text) (sym (take-append-drop n text)) ((bytes_eq-Decides front kind.scheme).0 e))
 
@@ -84,8 +84,8 @@ port_none_at usual p (Some n) e bad = absurd (bad n (port_is usual p n e))
 
 -- ---- parts
 
-parts_given : (kind : Kind) (text h p x : List ℕ) → Parts kind.scheme text h p x
-    → parts_behind kind (behind_scheme kind.scheme text) ≡ good_parts kind (lowered h) (port_of kind.usual p) x
+parts_given : (kind : AddressForm) (text h p x : List ℕ) → Parts kind.scheme text h p x
+    → parts_after_scheme kind (after_scheme kind.scheme text) ≡ good_parts kind (lower_case h) (port_of kind.usual p) x
 parts_given kind text h p x parts =
     let rest : List ℕ = h ++ (p ++ x) in
     let ends = first_ends p x parts.port_begins parts.path_begins in
@@ -93,42 +93,42 @@ parts_given kind text h p x parts =
     let behind = onward_at ends_host h (p ++ x) parts.host_ends ends in
     let port = until_at is_slash p x parts.port_ends parts.path_begins in
     let path = onward_at is_slash p x parts.port_ends parts.path_begins in
-    ap (λ (t : List ℕ). parts_behind kind (behind_scheme kind.scheme t)) parts.whole
-    ∙ ap (parts_behind kind) (behind_given kind.scheme parts.written rest parts.is_scheme)
-    ∙ ap (λ (t : List ℕ). good_parts kind (lowered t) (port_of kind.usual (until is_slash (onward ends_host rest))) (onward is_slash (onward ends_host rest))) host
-    ∙ ap (λ (t : List ℕ). good_parts kind (lowered h) (port_of kind.usual (until is_slash t)) (onward is_slash t)) behind
-    ∙ ap (λ (t : List ℕ). good_parts kind (lowered h) (port_of kind.usual t) (onward is_slash (p ++ x))) port
-    ∙ ap (λ (t : List ℕ). good_parts kind (lowered h) (port_of kind.usual p) t) path
+    ap (λ (t : List ℕ). parts_after_scheme kind (after_scheme kind.scheme t)) parts.whole
+    ∙ ap (parts_after_scheme kind) (behind_given kind.scheme parts.written rest parts.is_scheme)
+    ∙ ap (λ (t : List ℕ). good_parts kind (lower_case t) (port_of kind.usual (until is_slash (from_first ends_host rest))) (from_first is_slash (from_first ends_host rest))) host
+    ∙ ap (λ (t : List ℕ). good_parts kind (lower_case h) (port_of kind.usual (until is_slash t)) (from_first is_slash t)) behind
+    ∙ ap (λ (t : List ℕ). good_parts kind (lower_case h) (port_of kind.usual t) (from_first is_slash (p ++ x))) port
+    ∙ ap (λ (t : List ℕ). good_parts kind (lower_case h) (port_of kind.usual p) t) path
 
 chosen_if : {A : Type 0} (a b : Bool) (x : A) → a ≡ true → b ≡ true → (if a && b then Some x else None) ≡ Some x
 chosen_if true true x p q = refl
 chosen_if false b x p q = absurd cc
 chosen_if true false x p q = absurd cc
 
-written_given : (kind : Kind) (text h : List ℕ) (n : ℕ) (x : List ℕ) → Written kind text h n x
-    → parts_behind kind (behind_scheme kind.scheme text) ≡ Some (lowered h, (n, x))
+written_given : (kind : AddressForm) (text h : List ℕ) (n : ℕ) (x : List ℕ) → Writes kind text h n x
+    → parts_after_scheme kind (after_scheme kind.scheme text) ≡ Some (lower_case h, (n, x))
 written_given kind text h n x w =
     parts_given kind text h w.port x w.parts
-    ∙ ap (λ (o : Option ℕ). good_parts kind (lowered h) o x) (port_given kind.usual w.port n w.is_port)
-    ∙ chosen_if (is_host (lowered h)) (kind.path x) (lowered h, (n, x)) w.is_host w.is_path
+    ∙ ap (λ (o : Option ℕ). good_parts kind (lower_case h) o x) (port_given kind.usual w.port n w.is_port)
+    ∙ chosen_if (is_host (lower_case h)) (kind.path x) (lower_case h, (n, x)) w.is_host w.is_path
 
-bad_host : (kind : Kind) (host : List ℕ) (o : Option ℕ) (x : List ℕ) → is_host host ≡ false → good_parts kind host o x ≡ None
+bad_host : (kind : AddressForm) (host : List ℕ) (o : Option ℕ) (x : List ℕ) → is_host host ≡ false → good_parts kind host o x ≡ None
 bad_host kind host None x bad = refl
 bad_host kind host (Some n) x bad = ap (λ b. if b && kind.path x then Some (host, (n, x)) else None) bad
 
-bad_path : (kind : Kind) (host : List ℕ) (o : Option ℕ) (x : List ℕ) → is_host host ≡ true → kind.path x ≡ false → good_parts kind host o x ≡ None
+bad_path : (kind : AddressForm) (host : List ℕ) (o : Option ℕ) (x : List ℕ) → is_host host ≡ true → kind.path x ≡ false → good_parts kind host o x ≡ None
 bad_path kind host None x good bad = refl
 bad_path kind host (Some n) x good bad =
     ap (λ b. if b && kind.path x then Some (host, (n, x)) else None) good ∙ ap (λ b. if b then Some (host, (n, x)) else None) bad
 
-refused_given : (kind : Kind) (text : List ℕ) (f : NameFault) → (f ≡ fault.Memory → ⊥) → Refused kind text f → parts_behind kind (behind_scheme kind.scheme text) ≡ None
-refused_given kind text fault.Scheme m refused = ap (parts_behind kind) (behind_none kind text refused)
-refused_given kind text fault.Host m (h, p, x, parts, bad) = parts_given kind text h p x parts ∙ bad_host kind (lowered h) (port_of kind.usual p) x bad
+refused_given : (kind : AddressForm) (text : List ℕ) (f : NameFault) → (f ≡ fault.Memory → ⊥) → IsRefused kind text f → parts_after_scheme kind (after_scheme kind.scheme text) ≡ None
+refused_given kind text fault.Scheme m refused = ap (parts_after_scheme kind) (behind_none kind text refused)
+refused_given kind text fault.Host m (h, p, x, parts, bad) = parts_given kind text h p x parts ∙ bad_host kind (lower_case h) (port_of kind.usual p) x bad
 refused_given kind text fault.Port m (h, p, x, parts, host, bad) =
     parts_given kind text h p x parts
-    ∙ ap (λ (o : Option ℕ). good_parts kind (lowered h) o x) (port_none_at kind.usual p (port_of kind.usual p) refl bad)
+    ∙ ap (λ (o : Option ℕ). good_parts kind (lower_case h) o x) (port_none_at kind.usual p (port_of kind.usual p) refl bad)
 refused_given kind text fault.Path m (h, p, x, parts, host, port, bad) =
-    parts_given kind text h p x parts ∙ bad_path kind (lowered h) (port_of kind.usual p) x host bad
+    parts_given kind text h p x parts ∙ bad_path kind (lower_case h) (port_of kind.usual p) x host bad
 refused_given kind text fault.Memory m refused = absurd (m refl)
 
 -- ---- the law
@@ -136,22 +136,22 @@ refused_given kind text fault.Memory m refused = absurd (m refl)
 pub uan_given : (text : List ℕ) (u : Uan) → ReadsUan text (Ok u) → uan_of text ≡ Some u
 unfolding uan_of
 uan_given text u (h, w, e) =
-    ap uan_from (written_given name_kind text h u.port (47 ∷ u.path) w)
+    ap uan_from (written_given name_form text h u.port (47 ∷ u.path) w)
     ∙ ap (λ (host : List ℕ). uan_from (Some (host, (u.port, 47 ∷ u.path)))) (sym e)
 
 pub uan_refused : (text : List ℕ) (f : NameFault) → (f ≡ fault.Memory → ⊥) → ReadsUan text (Err f) → uan_of text ≡ None
 unfolding uan_of
-uan_refused text f m refused = ap uan_from (refused_given name_kind text f m refused)
+uan_refused text f m refused = ap uan_from (refused_given name_form text f m refused)
 
 pub ual_given : (text : List ℕ) (l : Ual) → ReadsUal text (Ok l) → ual_of text ≡ Some l
 unfolding ual_of
 ual_given text l (h, x, w, e) =
-    ap ual_from (written_given locator_kind text h l.port x w)
+    ap ual_from (written_given locator_form text h l.port x w)
     ∙ ap (λ (host : List ℕ). ual_from (Some (host, (l.port, x)))) (sym e)
 
 pub ual_refused : (text : List ℕ) (f : NameFault) → (f ≡ fault.Memory → ⊥) → ReadsUal text (Err f) → ual_of text ≡ None
 unfolding ual_of
-ual_refused text f m refused = ap ual_from (refused_given locator_kind text f m refused)
+ual_refused text f m refused = ap ual_from (refused_given locator_form text f m refused)
 
 pub names_are_given : NamesAreGiven
 names_are_given = record { uan = uan_given; no_uan = uan_refused; ual = ual_given; no_ual = ual_refused }

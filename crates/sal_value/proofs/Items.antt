@@ -6,7 +6,7 @@ use Rattle.sal_value.specs.declared.fields.Fault.TheVariants.{Cut, Bad, Memory}
 use Rattle.sal_value.specs.declared.value.Value.{Value}
 use Rattle.sal_value.specs.declared.value.Value.TheVariants as value
 use Rattle.sal_value.specs.Decoding.{Reading, ◌>>=◌, wrong, count_at, items_at, array_at, tagged_at, is_array, value_at}
-use Rattle.sal_value.specs.Reads.{Fails}
+use Rattle.sal_value.specs.code.Reads.{Fails}
 
 -- ---- which reading it is
 

@@ -12,7 +12,7 @@ use Rattle.sal_value.specs.declared.name.Uan.{Uan}
 use Rattle.sal_value.specs.declared.name.Name.{Name}
 use Rattle.sal_value.specs.declared.name.Name.TheVariants as name
 use Rattle.sal_value.specs.Names.{uan_text, address_text}
-use Rattle.sal_value.specs.Order.{closed, key, uan_key}
+use Rattle.sal_value.specs.Order.{with_end, key, uan_key}
 
 then_assoc : (a b c : Ordering) → ordering_then (ordering_then a b) c ≡ ordering_then a (ordering_then b c)
 then_assoc Less b c = refl
@@ -34,16 +34,16 @@ cmp_more : (x : ℕ) → nat_cmp (suc x) 0 ≡ Greater
 cmp_more x = grind (arith, nat_tests)
 
 -- two closed lists decide before what follows them
-pub cmp_closed : (x y r s : List ℕ) → slice_cmp nat_cmp (closed x ++ r) (closed y ++ s) ≡ ordering_then (slice_cmp nat_cmp x y) (slice_cmp nat_cmp r s)
+pub cmp_closed : (x y r s : List ℕ) → slice_cmp nat_cmp (with_end x ++ r) (with_end y ++ s) ≡ ordering_then (slice_cmp nat_cmp x y) (slice_cmp nat_cmp r s)
 cmp_closed [] [] r s = refl
-cmp_closed [] (b ∷ y) r s = ap (λ o. ordering_then o (slice_cmp nat_cmp r (closed y ++ s))) (cmp_less b)
-cmp_closed (a ∷ x) [] r s = ap (λ o. ordering_then o (slice_cmp nat_cmp (closed x ++ r) s)) (cmp_more a)
+cmp_closed [] (b ∷ y) r s = ap (λ o. ordering_then o (slice_cmp nat_cmp r (with_end y ++ s))) (cmp_less b)
+cmp_closed (a ∷ x) [] r s = ap (λ o. ordering_then o (slice_cmp nat_cmp (with_end x ++ r) s)) (cmp_more a)
 cmp_closed (a ∷ x) (b ∷ y) r s =
-    ap (λ o. ordering_then o (slice_cmp nat_cmp (closed x ++ r) (closed y ++ s))) (cmp_suc a b)
+    ap (λ o. ordering_then o (slice_cmp nat_cmp (with_end x ++ r) (with_end y ++ s))) (cmp_suc a b)
     ∙ ap (ordering_then (nat_cmp a b)) (cmp_closed x y r s) ∙ sym (then_assoc (nat_cmp a b) (slice_cmp nat_cmp x y) (slice_cmp nat_cmp r s))
 
 -- closed lists that agree with what follows agree in both parts
-closed_same : (x y r s : List ℕ) → closed x ++ r ≡ closed y ++ s → (x ≡ y) × (r ≡ s)
+closed_same : (x y r s : List ℕ) → with_end x ++ r ≡ with_end y ++ s → (x ≡ y) × (r ≡ s)
 closed_same [] [] r s e = (refl, cc)
 closed_same [] (b ∷ y) r s e = absurd cc
 closed_same (a ∷ x) [] r s e = absurd cc
@@ -82,7 +82,7 @@ same_names (name.Outside m) (name.Uan v) e = absurd cc
 same_names (name.Uan u) (name.Anon k n) e = absurd cc
 same_names (name.Uan u) (name.Outside n) e = absurd cc
 same_names (name.Uan u) (name.Uan v) e =
-    let texts = closed_same (uan_text u) (uan_text v) (closed u.host ++ u.port ∷ []) (closed v.host ++ v.port ∷ []) (tail_same _ _ _ _ e) in
+    let texts = closed_same (uan_text u) (uan_text v) (with_end u.host ++ u.port ∷ []) (with_end v.host ++ v.port ∷ []) (tail_same _ _ _ _ e) in
     let hosts = closed_same u.host v.host (u.port ∷ []) (v.port ∷ []) texts.1 in
     ap name.Uan (same_uans u v texts.0 hosts.0 (head_same _ _ _ _ hosts.1))
 
@@ -90,7 +90,7 @@ same_names (name.Uan u) (name.Uan v) e =
 pub cmp_uans : (u v : Uan) → slice_cmp nat_cmp (key (name.Uan u)) (key (name.Uan v)) ≡ ordering_then (slice_cmp nat_cmp (uan_text u) (uan_text v)) (ordering_then (slice_cmp nat_cmp u.host v.host) (nat_cmp u.port v.port))
 unfolding key
 cmp_uans u v =
-    cmp_closed (uan_text u) (uan_text v) (closed u.host ++ u.port ∷ []) (closed v.host ++ v.port ∷ [])
+    cmp_closed (uan_text u) (uan_text v) (with_end u.host ++ u.port ∷ []) (with_end v.host ++ v.port ∷ [])
     ∙ ap (ordering_then (slice_cmp nat_cmp (uan_text u) (uan_text v)))
     (cmp_closed u.host v.host (u.port ∷ []) (v.port ∷ []) ∙ ap (ordering_then (slice_cmp nat_cmp u.host v.host)) (then_equal (nat_cmp u.port v.port)))
 

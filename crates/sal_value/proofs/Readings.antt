@@ -12,7 +12,7 @@ use Rattle.sal_value.specs.declared.name.Uan.{Uan}
 use Rattle.sal_value.specs.declared.name.Ual.{Ual}
 use Rattle.sal_value.specs.declared.name.NameFault.{NameFault}
 use Rattle.sal_value.specs.declared.name.NameFault.TheVariants as fault
-use Rattle.sal_value.specs.Names.{lowered, address_text, uan_text, ual_text, is_host_byte, is_host, is_path, is_uan_path, NonePass, FirstPasses, is_colon, is_slash, ends_host, Kind, name_kind, locator_kind, Parts, IsPort, Written, Refused, ReadsUan, ReadsUal, is_port, is_uan, is_ual, NamesAreRead, LocatorsAreRead}
+use Rattle.sal_value.specs.Names.{lower_case, address_text, uan_text, ual_text, is_host_byte, is_host, is_path, is_uan_path, NonePass, FirstPasses, is_colon, is_slash, ends_host, AddressForm, name_form, locator_form, Parts, IsPort, Writes, IsRefused, ReadsUan, ReadsUal, is_port, is_uan, is_ual, NamesAreRead, LocatorsAreRead}
 use Rattle.sal_value.proofs.Bytes.{both, host_parts}
 use Rattle.sal_value.proofs.Cuts.{cut_same, front_same}
 
@@ -31,7 +31,7 @@ first_ends [] [] f g = tt
 first_ends [] (b ∷ q) f g = or_second (is_colon b) (is_slash b) g
 first_ends (b ∷ p) q f g = or_first (is_colon b) (is_slash b) f
 
-same_length : (s written other : List ℕ) → lowered written ≡ s → lowered other ≡ s → length written ≡ length other
+same_length : (s written other : List ℕ) → lower_case written ≡ s → lower_case other ≡ s → length written ≡ length other
 same_length s written other e f =
     omega (arith, length-map written to_ascii_lowercase, length-map other to_ascii_lowercase, ap length e, ap length f)
 
@@ -47,18 +47,18 @@ port_one usual [] m n a b = a ∙ sym b
 port_one usual (c ∷ ds) m n a b = decimal_injective m n (omega (arith, a.2)) (omega (arith, b.2)) (sym a.0 ∙ b.0)
 
 -- what is read is read in one way
-written_one : (kind : Kind) (text h : List ℕ) (m : ℕ) (x k : List ℕ) (n : ℕ) (y : List ℕ) → Written kind text h m x → Written kind text k n y → (h ≡ k) × (m ≡ n) × (x ≡ y)
+written_one : (kind : AddressForm) (text h : List ℕ) (m : ℕ) (x k : List ℕ) (n : ℕ) (y : List ℕ) → Writes kind text h m x → Writes kind text k n y → (h ≡ k) × (m ≡ n) × (x ≡ y)
 written_one kind text h m x k n y a b =
     let same = parts_one kind.scheme text h a.port x k b.port y a.parts b.parts in
     let ports : IsPort kind.usual b.port m = subst (λ p. IsPort kind.usual p m) same.1 a.is_port in
     (same.0, port_one kind.usual b.port m n ports b.is_port, same.2)
 
 -- what is read isn't refused
-written_sure : (kind : Kind) (text h : List ℕ) (m : ℕ) (x : List ℕ) (f : NameFault) → Written kind text h m x → Refused kind text f → f ≡ fault.Memory
+written_sure : (kind : AddressForm) (text h : List ℕ) (m : ℕ) (x : List ℕ) (f : NameFault) → Writes kind text h m x → IsRefused kind text f → f ≡ fault.Memory
 written_sure kind text h m x fault.Scheme a r = absurd (r a.parts.written (h ++ (a.port ++ x)) a.parts.whole a.parts.is_scheme)
 written_sure kind text h m x fault.Host a (k, q, y, parts, bad) =
     let same = parts_one kind.scheme text h a.port x k q y a.parts parts in
-    let good : is_host (lowered k) ≡ true = subst (λ z. is_host (lowered z) ≡ true) same.0 a.is_host in
+    let good : is_host (lower_case k) ≡ true = subst (λ z. is_host (lower_case z) ≡ true) same.0 a.is_host in
     absurd cc
 written_sure kind text h m x fault.Port a (k, q, y, parts, host, bad) =
     let same = parts_one kind.scheme text h a.port x k q y a.parts parts in
@@ -108,7 +108,7 @@ host_byte_stays b h = grind (arith, nat_tests)
 host_byte_inside : (b : ℕ) → is_host_byte b ≡ true → ends_host b ≡ false
 host_byte_inside b h = grind (arith, nat_tests)
 
-pub host_stays : (host : List ℕ) → list_all is_host_byte host ≡ true → lowered host ≡ host
+pub host_stays : (host : List ℕ) → list_all is_host_byte host ≡ true → lower_case host ≡ host
 host_stays [] h = refl
 host_stays (b ∷ host) h =
     let parts = both (is_host_byte b) (list_all is_host_byte host) h in
@@ -134,7 +134,7 @@ digits_inside (c ∷ ds) h =
 pub port_range : (n : ℕ) → is_port n ≡ true → (1 ≤ n) × (n ≤ 65535)
 port_range n h = grind (arith, nat_tests)
 
-again : (scheme host : List ℕ) (port : ℕ) (path : List ℕ) → lowered scheme ≡ scheme → is_host host ≡ true → is_port port ≡ true → FirstPasses is_slash path
+again : (scheme host : List ℕ) (port : ℕ) (path : List ℕ) → lower_case scheme ≡ scheme → is_host host ≡ true → is_port port ≡ true → FirstPasses is_slash path
     → Parts scheme (scheme ++ (address_text host port ++ path)) host (58 ∷ decimal port) path
 again scheme host port path low good number slash =
     let bytes = (host_parts host good).2 in
@@ -142,15 +142,15 @@ again scheme host port path low good number slash =
     record {
       written = scheme;
       is_scheme = low;
-      whole = ap (λ (x : List ℕ). scheme ++ x) (append_assoc (lowered host) (58 ∷ decimal port) path ∙ ap (λ (h : List ℕ). h ++ (58 ∷ decimal port ++ path)) (host_stays host bytes));
+      whole = ap (λ (x : List ℕ). scheme ++ x) (append_assoc (lower_case host) (58 ∷ decimal port) path ∙ ap (λ (h : List ℕ). h ++ (58 ∷ decimal port ++ path)) (host_stays host bytes));
       host_ends = host_inside host bytes;
       port_begins = refl;
       port_ends = (refl, digits_inside (decimal port) (decimal_is_IsNumeral port (omega (arith, range.1))).0.1);
       path_begins = slash;
     }
 
-written_again : (kind : Kind) (host : List ℕ) (port : ℕ) (path : List ℕ) → lowered kind.scheme ≡ kind.scheme → is_host host ≡ true → is_port port ≡ true → FirstPasses is_slash path → kind.path path ≡ true
-    → Written kind (kind.scheme ++ (address_text host port ++ path)) host port path × (host ≡ lowered host)
+written_again : (kind : AddressForm) (host : List ℕ) (port : ℕ) (path : List ℕ) → lower_case kind.scheme ≡ kind.scheme → is_host host ≡ true → is_port port ≡ true → FirstPasses is_slash path → kind.path path ≡ true
+    → Writes kind (kind.scheme ++ (address_text host port ++ path)) host port path × (host ≡ lower_case host)
 written_again kind host port path low good number slash is =
     let bytes = (host_parts host good).2 in
     let range = port_range port number in
@@ -170,14 +170,14 @@ unfolding is_uan uan_text
 name_again u h =
     let a = both (is_host u.host) (is_port u.port && is_uan_path (47 ∷ u.path)) h in
     let b = both (is_port u.port) (is_uan_path (47 ∷ u.path)) a.1 in
-    let w = written_again name_kind u.host u.port (47 ∷ u.path) refl a.0 b.0 refl b.1 in
+    let w = written_again name_form u.host u.port (47 ∷ u.path) refl a.0 b.0 refl b.1 in
     (u.host, w.0, w.1)
 
 locator_again : (l : Ual) → is_ual l ≡ true → ReadsUal (ual_text l) (Ok l)
 unfolding is_ual ual_text is_path
 locator_again l h =
     let a = both (is_host l.host) (is_port l.port) h in
-    let w = written_again locator_kind l.host l.port (47 ∷ []) refl a.0 a.1 refl refl in
+    let w = written_again locator_form l.host l.port (47 ∷ []) refl a.0 a.1 refl refl in
     (l.host, 47 ∷ [], w.0, w.1)
 
 -- ---- the laws
@@ -187,15 +187,15 @@ same_tail a b x y e = cc
 
 one_name : (text : List ℕ) (u v : Uan) → ReadsUan text (Ok u) → ReadsUan text (Ok v) → u ≡ v
 one_name text u v (h, a, e) (k, b, f) =
-    let same = written_one name_kind text h u.port (47 ∷ u.path) k v.port (47 ∷ v.path) a b in
-    let host : u.host ≡ v.host = e ∙ ap lowered same.0 ∙ sym f in
+    let same = written_one name_form text h u.port (47 ∷ u.path) k v.port (47 ∷ v.path) a b in
+    let host : u.host ≡ v.host = e ∙ ap lower_case same.0 ∙ sym f in
     let path = same_tail 47 47 u.path v.path same.2 in
     λ i. record { host = host i; port = same.1 i; path = path i }
 
 one_locator : (text : List ℕ) (l m : Ual) → ReadsUal text (Ok l) → ReadsUal text (Ok m) → l ≡ m
 one_locator text l m (h, x, a, e) (k, y, b, f) =
-    let same = written_one locator_kind text h l.port x k m.port y a b in
-    let host : l.host ≡ m.host = e ∙ ap lowered same.0 ∙ sym f in
+    let same = written_one locator_form text h l.port x k m.port y a b in
+    let host : l.host ≡ m.host = e ∙ ap lower_case same.0 ∙ sym f in
     λ i. record { host = host i; port = same.1 i }
 
 pub names_are_read : NamesAreRead
@@ -203,7 +203,7 @@ names_are_read = record {
   given = good_name;
   again = name_again;
   one = one_name;
-  sure = λ text u f a r. written_sure name_kind text a.0 u.port (47 ∷ u.path) f a.1 r;
+  sure = λ text u f a r. written_sure name_form text a.0 u.port (47 ∷ u.path) f a.1 r;
 }
 
 pub locators_are_read : LocatorsAreRead
@@ -211,5 +211,5 @@ locators_are_read = record {
   given = good_locator;
   again = locator_again;
   one = one_locator;
-  sure = λ text l f a r. written_sure locator_kind text a.0 l.port a.1 f a.2 r;
+  sure = λ text l f a r. written_sure locator_form text a.0 l.port a.1 f a.2 r;
 }

@@ -2,25 +2,25 @@
 use Rattle.std.proofs.Common.{◌≡◌, ℕ, Bool, true, false, List, ◌++◌, refl, ap, subst, ◌∙◌}
 use Rattle.sal_value.specs.declared.name.NameFault.{NameFault}
 use Rattle.sal_value.specs.declared.name.NameFault.TheVariants as fault
-use Rattle.sal_value.specs.Names.{lowered, is_host, Kind, name_kind, locator_kind, Parts, IsPort, Refused, NamesAreRefusedOnce}
+use Rattle.sal_value.specs.Names.{lower_case, is_host, AddressForm, name_form, locator_form, Parts, IsPort, IsRefused, NamesAreRefusedOnce}
 use Rattle.sal_value.proofs.Readings.{parts_one}
 
 not_both : (b : Bool) → b ≡ true → b ≡ false → ⊥
 not_both b p q = cc
 
-no_scheme : (kind : Kind) (text h p x : List ℕ) → Refused kind text fault.Scheme → Parts kind.scheme text h p x → ⊥
+no_scheme : (kind : AddressForm) (text h p x : List ℕ) → IsRefused kind text fault.Scheme → Parts kind.scheme text h p x → ⊥
 no_scheme kind text h p x r parts = r parts.written (h ++ (p ++ x)) parts.whole parts.is_scheme
 
-no_host : (kind : Kind) (text h p x : List ℕ) → Refused kind text fault.Host → Parts kind.scheme text h p x → is_host (lowered h) ≡ true → ⊥
+no_host : (kind : AddressForm) (text h p x : List ℕ) → IsRefused kind text fault.Host → Parts kind.scheme text h p x → is_host (lower_case h) ≡ true → ⊥
 no_host kind text h p x (k, q, y, parts, bad) good host =
-    not_both (is_host (lowered h)) host (ap (λ (z : List ℕ). is_host (lowered z)) (parts_one kind.scheme text h p x k q y good parts).0 ∙ bad)
+    not_both (is_host (lower_case h)) host (ap (λ (z : List ℕ). is_host (lower_case z)) (parts_one kind.scheme text h p x k q y good parts).0 ∙ bad)
 
-no_port : (kind : Kind) (text h p x : List ℕ) (n : ℕ) → Refused kind text fault.Port → Parts kind.scheme text h p x → IsPort kind.usual p n → ⊥
+no_port : (kind : AddressForm) (text h p x : List ℕ) (n : ℕ) → IsRefused kind text fault.Port → Parts kind.scheme text h p x → IsPort kind.usual p n → ⊥
 no_port kind text h p x n (k, q, y, parts, host, bad) good port =
     bad n (subst (λ z. IsPort kind.usual z n) (parts_one kind.scheme text h p x k q y good parts).1 port)
 
 -- of two refusals the first part that isn't good decides
-one_refusal : (kind : Kind) (text : List ℕ) (f g : NameFault) → (f ≡ fault.Memory → ⊥) → (g ≡ fault.Memory → ⊥) → Refused kind text f → Refused kind text g → f ≡ g
+one_refusal : (kind : AddressForm) (text : List ℕ) (f g : NameFault) → (f ≡ fault.Memory → ⊥) → (g ≡ fault.Memory → ⊥) → IsRefused kind text f → IsRefused kind text g → f ≡ g
 one_refusal kind text fault.Memory g m l a b = absurd (m refl)
 one_refusal kind text fault.Scheme fault.Memory m l a b = absurd (l refl)
 one_refusal kind text fault.Host fault.Memory m l a b = absurd (l refl)
@@ -45,6 +45,6 @@ one_refusal kind text fault.Path fault.Path m l a b = refl
 
 pub names_are_refused_once : NamesAreRefusedOnce
 names_are_refused_once = record {
-  uan = λ text f g m l a b. one_refusal name_kind text f g m l a b;
-  ual = λ text f g m l a b. one_refusal locator_kind text f g m l a b;
+  uan = λ text f g m l a b. one_refusal name_form text f g m l a b;
+  ual = λ text f g m l a b. one_refusal locator_form text f g m l a b;
 }

@@ -8,17 +8,17 @@ use Rattle.std.specs.Fmt.{decimal}
 use Rattle.std.specs.Ordering.{nat_cmp}
 use Rattle.std.specs.Cmp.Lexicographic.{slice_cmp}
 use Rattle.sal_value.specs.declared.name.Uan.{Uan}
-use Rattle.sal_value.specs.Names.{lowered, uan_text, is_uan, is_host, is_port, is_path, is_uan_path}
+use Rattle.sal_value.specs.Names.{lower_case, uan_text, is_uan, is_host, is_port, is_path, is_uan_path}
 use Rattle.sal_value.proofs.Bytes.{both, host_parts, path_parts}
 
 -- from its host on: host, port between its signs, path
-pub uan_parts : (u : Uan) → uan_text u ≡ codes "uan://" ++ (lowered u.host ++ (58 ∷ (decimal u.port ++ 47 ∷ []) ++ u.path))
+pub uan_parts : (u : Uan) → uan_text u ≡ codes "uan://" ++ (lower_case u.host ++ (58 ∷ (decimal u.port ++ 47 ∷ []) ++ u.path))
 unfolding uan_text
 uan_parts u = simp append_assoc
 
 -- texts are compared from their hosts on
 pub cmp_texts : (u v : Uan) (p q : List ℕ) → p ≡ 58 ∷ (decimal u.port ++ 47 ∷ []) → q ≡ 58 ∷ (decimal v.port ++ 47 ∷ [])
-    → slice_cmp nat_cmp (lowered u.host ++ (p ++ u.path)) (lowered v.host ++ (q ++ v.path)) ≡ slice_cmp nat_cmp (uan_text u) (uan_text v)
+    → slice_cmp nat_cmp (lower_case u.host ++ (p ++ u.path)) (lower_case v.host ++ (q ++ v.path)) ≡ slice_cmp nat_cmp (uan_text u) (uan_text v)
 cmp_texts u v p q ep eq = rw (ep, eq, uan_parts u, uan_parts v) refl
 
 pub length_uan_text : (u : Uan) → length (uan_text u) ≡ 8 + length u.host + length (decimal u.port) + length u.path
@@ -26,7 +26,7 @@ length_uan_text u =
     omega (
       arith,
       ap length (uan_parts u),
-      length-append (lowered u.host) (58 ∷ (decimal u.port ++ 47 ∷ []) ++ u.path),
+      length-append (lower_case u.host) (58 ∷ (decimal u.port ++ 47 ∷ []) ++ u.path),
       length-append (decimal u.port ++ 47 ∷ []) u.path,
       length-append (decimal u.port) (47 ∷ []),
       length-map u.host to_ascii_lowercase,

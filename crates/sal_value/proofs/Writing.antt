@@ -9,7 +9,7 @@ use Rattle.sal_value.specs.declared.name.Uan.{Uan}
 use Rattle.sal_value.specs.declared.name.Name.{Name}
 use Rattle.sal_value.specs.declared.value.Value.{Value}
 use Rattle.sal_value.specs.declared.value.Value.TheVariants as v
-use Rattle.sal_value.specs.Names.{lowered, uan_text, is_uan, is_host, is_port, is_uan_path}
+use Rattle.sal_value.specs.Names.{lower_case, uan_text, is_uan, is_host, is_port, is_uan_path}
 use Rattle.sal_value.specs.Spelling.{anon_bytes, name_is_spelled, spelling, fits, is_spelled, FitsSomeDepth}
 use Rattle.sal_value.proofs.Bytes.{both, host_parts}
 use Rattle.sal_value.proofs.Readings.{host_stays}
@@ -29,7 +29,7 @@ pub uan_written : (old : List ℕ) (u : Uan) (p : List ℕ) → is_uan u ≡ tru
 unfolding is_uan
 uan_written old u p h e =
     let a = both (is_host u.host) (is_port u.port && is_uan_path (47 ∷ u.path)) h in
-    let host : lowered u.host ≡ u.host = host_stays u.host (host_parts u.host a.0).2 in
+    let host : lower_case u.host ≡ u.host = host_stays u.host (host_parts u.host a.0).2 in
     let q : List ℕ = 58 ∷ (decimal u.port ++ 47 ∷ []) in
     append_assoc ((old ++ codes "uan://") ++ u.host) p u.path
     ∙ append_assoc (old ++ codes "uan://") u.host (p ++ u.path)

@@ -71,16 +71,16 @@ unfoldable pub canonical_uan : List ℕ → Option Uan
 canonical_uan text = if is_uan (cut_uan text) && bytes_eq (uan_text (cut_uan text)) text then Some (cut_uan text) else None
 
 -- this name, or the text is wrong
-abbrev pub named : List ℕ → List ℕ → Option Uan → Reading Uan
-named text rest None = wrong text
-named text rest (Some u) = Ok (u, rest)
+abbrev pub uan_or_wrong : List ℕ → List ℕ → Option Uan → Reading Uan
+uan_or_wrong text rest None = wrong text
+uan_or_wrong text rest (Some u) = Ok (u, rest)
 
 -- a length, and so many bytes of a canonical text
 unfoldable pub uan_at : List ℕ → Reading Uan
 uan_at bytes = do
   n ← number_at w16 bytes
   t ← bytes_at n.0 n.1
-  named n.1 t.1 (canonical_uan t.0)
+  uan_or_wrong n.1 t.1 (canonical_uan t.0)
 
 unfoldable pub anon_at : List ℕ → Reading Name
 anon_at bytes = do
@@ -144,18 +144,18 @@ value_at (suc depth) bytes = tagged_at (array_at (value_at depth)) bytes
 -- ---- with places
 
 -- a fault with the place of the field that is wrong
-abbrev pub placed_fault : Fault → ℕ → DecodeFault
-placed_fault Cut size = fault.Cut
-placed_fault (Bad left) size = fault.Bad (size - left)
-placed_fault Memory size = fault.Memory
+abbrev pub fault_with_offset : Fault → ℕ → DecodeFault
+fault_with_offset Cut size = fault.Cut
+fault_with_offset (Bad left) size = fault.Bad (size - left)
+fault_with_offset Memory size = fault.Memory
 
 -- What was read and how many bytes it takes, or the fault with its place.
-abbrev pub placed : {A : Type 0} → List ℕ → Reading A → Result (A × ℕ) DecodeFault
-placed bytes (Ok x) = Ok (x.0, length bytes - length x.1)
-placed bytes (Err f) = Err (placed_fault f (length bytes))
+abbrev pub with_offset : {A : Type 0} → List ℕ → Reading A → Result (A × ℕ) DecodeFault
+with_offset bytes (Ok x) = Ok (x.0, length bytes - length x.1)
+with_offset bytes (Err f) = Err (fault_with_offset f (length bytes))
 
 unfoldable pub decoded_value : List ℕ → Result (Value × ℕ) DecodeFault
-decoded_value bytes = placed bytes (value_at 64 bytes)
+decoded_value bytes = with_offset bytes (value_at 64 bytes)
 
 unfoldable pub decoded_name : List ℕ → Result (Name × ℕ) DecodeFault
-decoded_name bytes = placed bytes (name_at bytes)
+decoded_name bytes = with_offset bytes (name_at bytes)

@@ -14,12 +14,12 @@ use Rattle.sal_value.specs.declared.constants.TheConstants.{NAME_PORT, LOCATOR_P
 -- ---- canonical texts
 
 -- in lower case
-abbrev pub lowered : List ℕ → List ℕ
-lowered bytes = map to_ascii_lowercase bytes
+abbrev pub lower_case : List ℕ → List ℕ
+lower_case bytes = map to_ascii_lowercase bytes
 
 -- host and port as canonical texts have them: `host:port`
 abbrev pub address_text : List ℕ → ℕ → List ℕ
-address_text host port = lowered host ++ 58 ∷ decimal port
+address_text host port = lower_case host ++ 58 ∷ decimal port
 
 -- the canonical text of a name: `uan://host:port/path`
 unfoldable pub uan_text : Uan → List ℕ
@@ -70,7 +70,7 @@ abbrev pub ends_host : ℕ → Bool
 ends_host b = is_colon b || is_slash b
 
 -- How one kind of text is written: its scheme, the port where none stands, and which paths are good.
-pub record Kind : Type 0 where
+pub record AddressForm : Type 0 where
   pub scheme : List ℕ
   pub usual : ℕ
   pub path : List ℕ → Bool
@@ -85,21 +85,21 @@ abbrev pub is_ual_path : List ℕ → Bool
 is_ual_path [] = true
 is_ual_path (slash ∷ path) = is_path path
 
-abbrev pub name_kind : Kind
-name_kind = record { scheme = codes "uan://"; usual = NAME_PORT; path = is_uan_path }
+abbrev pub name_form : AddressForm
+name_form = record { scheme = codes "uan://"; usual = NAME_PORT; path = is_uan_path }
 
-abbrev pub locator_kind : Kind
-locator_kind = record { scheme = codes "rmsp://"; usual = LOCATOR_PORT; path = is_ual_path }
+abbrev pub locator_form : AddressForm
+locator_form = record { scheme = codes "rmsp://"; usual = LOCATOR_PORT; path = is_ual_path }
 
 -- texts of this scheme, whatever their paths
-abbrev pub any_path : List ℕ → ℕ → Kind
+abbrev pub any_path : List ℕ → ℕ → AddressForm
 any_path scheme usual = record { scheme = scheme; usual = usual; path = λ _. true }
 
 -- A text cut into its parts. The scheme may be in either case. The host goes to the first `:` or `/` or to
 -- the end. A port begins with `:` and goes to the first `/` or to the end. The path is the rest, with its `/`.
 pub record Parts (scheme text host port path : List ℕ) : Type 0 where
   pub written : List ℕ
-  pub is_scheme : lowered written ≡ scheme
+  pub is_scheme : lower_case written ≡ scheme
   pub whole : text ≡ written ++ (host ++ (port ++ path))
   pub host_ends : NonePass ends_host host
   pub port_begins : FirstPasses is_colon port
@@ -112,30 +112,30 @@ IsPort usual [] n = n ≡ usual
 IsPort usual (colon ∷ digits) n = (digits ≡ decimal n) × (1 ≤ n) × (n ≤ 65535)
 
 -- each part of the text is good, and its port is n
-pub record Written (kind : Kind) (text host : List ℕ) (n : ℕ) (path : List ℕ) : Type 0 where
+pub record Writes (kind : AddressForm) (text host : List ℕ) (n : ℕ) (path : List ℕ) : Type 0 where
   pub port : List ℕ
   pub parts : Parts kind.scheme text host port path
-  pub is_host : is_host (lowered host) ≡ true
+  pub is_host : is_host (lower_case host) ≡ true
   pub is_port : IsPort kind.usual port n
   pub is_path : kind.path path ≡ true
 
 -- The text is refused for its first part that isn't good.
-abbrev pub Refused : Kind → List ℕ → NameFault → Type 0
-Refused kind text fault.Scheme = (scheme rest : List ℕ) → text ≡ scheme ++ rest → lowered scheme ≡ kind.scheme → ⊥
-Refused kind text fault.Host = (host port path : List ℕ) × Parts kind.scheme text host port path × (is_host (lowered host) ≡ false)
-Refused kind text fault.Port = (host port path : List ℕ) × Parts kind.scheme text host port path × (is_host (lowered host) ≡ true) × ((n : ℕ) → IsPort kind.usual port n → ⊥)
-Refused kind text fault.Path = (host port path : List ℕ) × Parts kind.scheme text host port path × (is_host (lowered host) ≡ true) × ((n : ℕ) × IsPort kind.usual port n) × (kind.path path ≡ false)
-Refused kind text fault.Memory = Unit {0}
+abbrev pub IsRefused : AddressForm → List ℕ → NameFault → Type 0
+IsRefused kind text fault.Scheme = (scheme rest : List ℕ) → text ≡ scheme ++ rest → lower_case scheme ≡ kind.scheme → ⊥
+IsRefused kind text fault.Host = (host port path : List ℕ) × Parts kind.scheme text host port path × (is_host (lower_case host) ≡ false)
+IsRefused kind text fault.Port = (host port path : List ℕ) × Parts kind.scheme text host port path × (is_host (lower_case host) ≡ true) × ((n : ℕ) → IsPort kind.usual port n → ⊥)
+IsRefused kind text fault.Path = (host port path : List ℕ) × Parts kind.scheme text host port path × (is_host (lower_case host) ≡ true) × ((n : ℕ) × IsPort kind.usual port n) × (kind.path path ≡ false)
+IsRefused kind text fault.Memory = Unit {0}
 
 -- what reading a name answers
 abbrev pub ReadsUan : List ℕ → Result Uan NameFault → Type 0
-ReadsUan text (Ok u) = (host : List ℕ) × Written name_kind text host u.port (47 ∷ u.path) × (u.host ≡ lowered host)
-ReadsUan text (Err f) = Refused name_kind text f
+ReadsUan text (Ok u) = (host : List ℕ) × Writes name_form text host u.port (47 ∷ u.path) × (u.host ≡ lower_case host)
+ReadsUan text (Err f) = IsRefused name_form text f
 
 -- what reading a locator answers, whose path is dropped
 abbrev pub ReadsUal : List ℕ → Result Ual NameFault → Type 0
-ReadsUal text (Ok l) = (host path : List ℕ) × Written locator_kind text host l.port path × (l.host ≡ lowered host)
-ReadsUal text (Err f) = Refused locator_kind text f
+ReadsUal text (Ok l) = (host path : List ℕ) × Writes locator_form text host l.port path × (l.host ≡ lower_case host)
+ReadsUal text (Err f) = IsRefused locator_form text f
 
 -- ---- names that reading gives
 
@@ -157,33 +157,33 @@ until test [] = []
 until test (b ∷ bytes) = if test b then [] else b ∷ until test bytes
 
 -- the bytes from the first that passes the test
-abbrev pub onward : (ℕ → Bool) → List ℕ → List ℕ
-onward test [] = []
-onward test (b ∷ bytes) = if test b then b ∷ bytes else onward test bytes
+abbrev pub from_first : (ℕ → Bool) → List ℕ → List ℕ
+from_first test [] = []
+from_first test (b ∷ bytes) = if test b then b ∷ bytes else from_first test bytes
 
 -- the port that these digits are the decimal text of
-abbrev pub port_written : List ℕ → Option ℕ
-port_written digits = if bytes_eq (decimal (digits_value 10 digits)) digits && is_port (digits_value 10 digits) then Some (digits_value 10 digits) else None
+abbrev pub port_of_digits : List ℕ → Option ℕ
+port_of_digits digits = if bytes_eq (decimal (digits_value 10 digits)) digits && is_port (digits_value 10 digits) then Some (digits_value 10 digits) else None
 
 -- the number that a port's part writes
 abbrev pub port_of : ℕ → List ℕ → Option ℕ
 port_of usual [] = Some usual
-port_of usual (colon ∷ digits) = port_written digits
+port_of usual (colon ∷ digits) = port_of_digits digits
 
 -- what stands behind a scheme
-abbrev pub behind_scheme : List ℕ → List ℕ → Option (List ℕ)
-behind_scheme scheme text = if bytes_eq (lowered (take (length scheme) text)) scheme then Some (drop (length scheme) text) else None
+abbrev pub after_scheme : List ℕ → List ℕ → Option (List ℕ)
+after_scheme scheme text = if bytes_eq (lower_case (take (length scheme) text)) scheme then Some (drop (length scheme) text) else None
 
 -- host, port and path, if all three are good
-abbrev pub good_parts : Kind → List ℕ → Option ℕ → List ℕ → Option (List ℕ × (ℕ × List ℕ))
+abbrev pub good_parts : AddressForm → List ℕ → Option ℕ → List ℕ → Option (List ℕ × (ℕ × List ℕ))
 good_parts kind host None path = None
 good_parts kind host (Some port) path = if is_host host && kind.path path then Some (host, (port, path)) else None
 
 -- the parts of what stands behind the scheme, with the host in lower case
-abbrev pub parts_behind : Kind → Option (List ℕ) → Option (List ℕ × (ℕ × List ℕ))
-parts_behind kind None = None
-parts_behind kind (Some text) =
-    good_parts kind (lowered (until ends_host text)) (port_of kind.usual (until is_slash (onward ends_host text))) (onward is_slash (onward ends_host text))
+abbrev pub parts_after_scheme : AddressForm → Option (List ℕ) → Option (List ℕ × (ℕ × List ℕ))
+parts_after_scheme kind None = None
+parts_after_scheme kind (Some text) =
+    good_parts kind (lower_case (until ends_host text)) (port_of kind.usual (until is_slash (from_first ends_host text))) (from_first is_slash (from_first ends_host text))
 
 -- a path without its first byte
 abbrev pub without_slash : List ℕ → List ℕ
@@ -202,11 +202,11 @@ ual_from (Some parts) = Some (record { host = parts.0; port = parts.1.0 })
 
 -- the name that a text writes, if it writes one
 unfoldable pub uan_of : List ℕ → Option Uan
-uan_of text = uan_from (parts_behind name_kind (behind_scheme name_kind.scheme text))
+uan_of text = uan_from (parts_after_scheme name_form (after_scheme name_form.scheme text))
 
 -- the locator that a text writes, if it writes one
 unfoldable pub ual_of : List ℕ → Option Ual
-ual_of text = ual_from (parts_behind locator_kind (behind_scheme locator_kind.scheme text))
+ual_of text = ual_from (parts_after_scheme locator_form (after_scheme locator_form.scheme text))
 
 -- They are the names that reading gives, and each is read again from its canonical text. A text that is
 -- read is read in one way, and isn't refused.

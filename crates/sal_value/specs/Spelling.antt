@@ -77,13 +77,13 @@ size v = if is_legal v then length (spelling v) else 65537
 -- ---- what is left of a room
 
 -- what so many bytes leave of a room, if they may stand there
-abbrev pub left_of : Bool → ℕ → ℕ → Option ℕ
-left_of good taken room = if good && nat_le taken room then Some (room - taken) else None
+abbrev pub room_left : Bool → ℕ → ℕ → Option ℕ
+room_left good taken room = if good && nat_le taken room then Some (room - taken) else None
 
 -- what a name's spelling leaves
-unfoldable pub room_behind_name : Name → ℕ → Option ℕ
-room_behind_name n room = left_of (name_is_spelled n) (length (name_spelling n)) room
+unfoldable pub room_after_name : Name → ℕ → Option ℕ
+room_after_name n room = room_left (name_is_spelled n) (length (name_spelling n)) room
 
 -- what the spelling of a value leaves, of which at most so many arrays may stand in one another
-unfoldable pub room_behind : Value → ℕ → ℕ → Option ℕ
-room_behind v depth room = left_of (fits v depth) (length (spelling v)) room
+unfoldable pub room_after : Value → ℕ → ℕ → Option ℕ
+room_after v depth room = room_left (fits v depth) (length (spelling v)) room

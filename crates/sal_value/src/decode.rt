@@ -2,8 +2,8 @@
 
 ghost use Rattle.std.specs.Prelude.{◌≡◌, ◌↔◌, ◌∷◌, false, List, length, IsTrue, IfOk, MatchOption};
 ghost use Rattle.sal_value.specs.Names.{uan_text};
-ghost use Rattle.sal_value.specs.Decoding.{count_at, canonical_uan, uan_at, anon_at, name_at, value_at, is_array, decoded_name, decoded_value, placed_fault};
-ghost use Rattle.sal_value.specs.Reads.{Gives, Decodes};
+ghost use Rattle.sal_value.specs.Decoding.{count_at, canonical_uan, uan_at, anon_at, name_at, value_at, is_array, decoded_name, decoded_value, fault_with_offset};
+ghost use Rattle.sal_value.specs.code.Reads.{ReadsAs, Decodes};
 
 use crate::fields::{self, Fault};
 use crate::list::List;
@@ -40,7 +40,7 @@ fn canonical(alloc: Global, text: &[u8]) -> Result<Option<Uan>, NoMemory>
 
 #[tactic(auto, unfolding(crate::specs::Decoding::uan_at))]
 fn uan(alloc: Global, bytes: &[u8]) -> Result<(Uan, &[u8]), Fault>
-    ensures { Gives (λ x. (x.0, x.1.now)) result (uan_at bytes.now) }
+    ensures { ReadsAs (λ x. (x.0, x.1.now)) result (uan_at bytes.now) }
 {
     let (len, behind) = fields::number_16(bytes)?;
     let (text, rest) = fields::take(behind, len as usize)?;
@@ -52,7 +52,7 @@ fn uan(alloc: Global, bytes: &[u8]) -> Result<(Uan, &[u8]), Fault>
 
 #[tactic(auto, unfolding(crate::specs::Decoding::anon_at))]
 fn anon(bytes: &[u8]) -> Result<(Name, &[u8]), Fault>
-    ensures { Gives (λ x. (x.0, x.1.now)) result (anon_at bytes.now) }
+    ensures { ReadsAs (λ x. (x.0, x.1.now)) result (anon_at bytes.now) }
 {
     let (theatre, rest) = fields::number_32(bytes)?;
     let (number, rest) = fields::number_64(rest)?;
@@ -61,7 +61,7 @@ fn anon(bytes: &[u8]) -> Result<(Name, &[u8]), Fault>
 
 #[tactic(auto, unfolding(crate::specs::Decoding::name_at))]
 fn name(alloc: Global, bytes: &[u8]) -> Result<(Name, &[u8]), Fault>
-    ensures { Gives (λ x. (x.0, x.1.now)) result (name_at bytes.now) }
+    ensures { ReadsAs (λ x. (x.0, x.1.now)) result (name_at bytes.now) }
 {
     let (tag, rest) = fields::byte(bytes)?;
     match tag {
@@ -80,7 +80,7 @@ fn name(alloc: Global, bytes: &[u8]) -> Result<(Name, &[u8]), Fault>
 
 #[tactic(auto, unfolding(crate::specs::Decoding::count_at))]
 fn count(bytes: &[u8]) -> Result<(u16, &[u8]), Fault>
-    ensures { Gives (λ x. (x.0, x.1.now)) result (count_at bytes.now) }
+    ensures { ReadsAs (λ x. (x.0, x.1.now)) result (count_at bytes.now) }
 {
     let (count, rest) = fields::number_16(bytes)?;
     if count > 4096 {
@@ -90,7 +90,7 @@ fn count(bytes: &[u8]) -> Result<(u16, &[u8]), Fault>
 }
 
 /// What stands behind the tag of an array.
-fn array_behind(bytes: &[u8]) -> Option<&[u8]>
+fn after_array_tag(bytes: &[u8]) -> Option<&[u8]>
     ensures { MatchOption result (is_array bytes.now ≡ false) (λ behind. bytes.now ≡ 4 ∷ behind.now) }
 {
     match bytes {
@@ -102,7 +102,7 @@ fn array_behind(bytes: &[u8]) -> Option<&[u8]>
 /// A value that is no array.
 #[tactic(auto, unfolding(crate::specs::Decoding::value_at, crate::specs::Decoding::tagged_at))]
 fn alone(alloc: Global, bytes: &[u8]) -> Result<(Value, &[u8]), Fault>
-    ensures { Gives (λ x. (x.0, x.1.now)) result (value_at 0 bytes.now) }
+    ensures { ReadsAs (λ x. (x.0, x.1.now)) result (value_at 0 bytes.now) }
 {
     let (tag, rest) = fields::byte(bytes)?;
     match tag {
@@ -130,9 +130,9 @@ fn alone(alloc: Global, bytes: &[u8]) -> Result<(Value, &[u8]), Fault>
 /// A value with at most so many arrays in one another.
 #[tactic(auto, using(crate::proofs::Items::other_reads))]
 fn value(alloc: Global, depth: u8, bytes: &[u8]) -> Result<(Value, &[u8]), Fault>
-    ensures { Gives (λ x. (x.0, x.1.now)) result (value_at depth bytes.now) }
+    ensures { ReadsAs (λ x. (x.0, x.1.now)) result (value_at depth bytes.now) }
 {
-    let Some(behind) = array_behind(bytes) else {
+    let Some(behind) = after_array_tag(bytes) else {
         return alone(alloc, bytes);
     };
     if depth == 0 {
@@ -148,8 +148,8 @@ fn value(alloc: Global, depth: u8, bytes: &[u8]) -> Result<(Value, &[u8]), Fault
     Ok((Value::Array(items), rest))
 }
 
-fn placed(fault: Fault, size: usize) -> DecodeFault
-    ensures { result ≡ placed_fault fault size }
+fn with_offset(fault: Fault, size: usize) -> DecodeFault
+    ensures { result ≡ fault_with_offset fault size }
 {
     match fault {
         Fault::Cut => DecodeFault::Cut,
@@ -166,7 +166,7 @@ impl Name {
     {
         match name(alloc, bytes) {
             Ok((name, rest)) => Ok((name, bytes.len().saturating_sub(rest.len()))),
-            Err(fault) => Err(placed(fault, bytes.len())),
+            Err(fault) => Err(with_offset(fault, bytes.len())),
         }
     }
 }
@@ -179,7 +179,7 @@ impl Value {
     {
         match value(alloc, 64, bytes) {
             Ok((value, rest)) => Ok((value, bytes.len().saturating_sub(rest.len()))),
-            Err(fault) => Err(placed(fault, bytes.len())),
+            Err(fault) => Err(with_offset(fault, bytes.len())),
         }
     }
 }

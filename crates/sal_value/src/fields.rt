@@ -3,7 +3,7 @@
 ghost use Rattle.std.specs.Prelude.{◌≡◌, List, length};
 ghost use Rattle.std.specs.Int.{w16, w32, w64};
 ghost use Rattle.sal_value.specs.Decoding.{byte_at, bytes_at, number_at, bool_at, text_at};
-ghost use Rattle.sal_value.specs.Reads.{Gives};
+ghost use Rattle.sal_value.specs.code.Reads.{ReadsAs};
 
 use crate::no_memory::NoMemory;
 use crate::text::Text;
@@ -30,7 +30,7 @@ impl From<NoMemory> for Fault {
 }
 
 pub fn byte(bytes: &[u8]) -> Result<(u8, &[u8]), Fault>
-    ensures { Gives (λ x. (x.0, x.1.now)) result (byte_at bytes.now) }
+    ensures { ReadsAs (λ x. (x.0, x.1.now)) result (byte_at bytes.now) }
 {
     match bytes {
         [] => Err(Fault::Cut),
@@ -40,7 +40,7 @@ pub fn byte(bytes: &[u8]) -> Result<(u8, &[u8]), Fault>
 
 #[tactic(auto, unfolding(crate::specs::Decoding::bytes_at))]
 pub fn take(bytes: &[u8], count: usize) -> Result<(&[u8], &[u8]), Fault>
-    ensures { Gives (λ x. (x.0.now, x.1.now)) result (bytes_at count bytes.now) }
+    ensures { ReadsAs (λ x. (x.0.now, x.1.now)) result (bytes_at count bytes.now) }
 {
     if bytes.len() < count {
         return Err(Fault::Cut);
@@ -50,7 +50,7 @@ pub fn take(bytes: &[u8], count: usize) -> Result<(&[u8], &[u8]), Fault>
 
 #[tactic(auto, unfolding(crate::specs::Decoding::bytes_at, crate::specs::Decoding::number_at))]
 pub fn number_16(bytes: &[u8]) -> Result<(u16, &[u8]), Fault>
-    ensures { Gives (λ x. (x.0, x.1.now)) result (number_at w16 bytes.now) }
+    ensures { ReadsAs (λ x. (x.0, x.1.now)) result (number_at w16 bytes.now) }
 {
     if bytes.len() < 2 {
         return Err(Fault::Cut);
@@ -61,7 +61,7 @@ pub fn number_16(bytes: &[u8]) -> Result<(u16, &[u8]), Fault>
 
 #[tactic(auto, unfolding(crate::specs::Decoding::bytes_at, crate::specs::Decoding::number_at))]
 pub fn number_32(bytes: &[u8]) -> Result<(u32, &[u8]), Fault>
-    ensures { Gives (λ x. (x.0, x.1.now)) result (number_at w32 bytes.now) }
+    ensures { ReadsAs (λ x. (x.0, x.1.now)) result (number_at w32 bytes.now) }
 {
     if bytes.len() < 4 {
         return Err(Fault::Cut);
@@ -73,7 +73,7 @@ pub fn number_32(bytes: &[u8]) -> Result<(u32, &[u8]), Fault>
 
 #[tactic(auto, unfolding(crate::specs::Decoding::bytes_at, crate::specs::Decoding::number_at))]
 pub fn number_64(bytes: &[u8]) -> Result<(u64, &[u8]), Fault>
-    ensures { Gives (λ x. (x.0, x.1.now)) result (number_at w64 bytes.now) }
+    ensures { ReadsAs (λ x. (x.0, x.1.now)) result (number_at w64 bytes.now) }
 {
     if bytes.len() < 8 {
         return Err(Fault::Cut);
@@ -87,7 +87,7 @@ pub fn number_64(bytes: &[u8]) -> Result<(u64, &[u8]), Fault>
 
 #[tactic(auto, unfolding(crate::specs::Decoding::bool_at))]
 pub fn truth(bytes: &[u8]) -> Result<(bool, &[u8]), Fault>
-    ensures { Gives (λ x. (x.0, x.1.now)) result (bool_at bytes.now) }
+    ensures { ReadsAs (λ x. (x.0, x.1.now)) result (bool_at bytes.now) }
 {
     match bytes {
         [] => Err(Fault::Cut),
@@ -99,7 +99,7 @@ pub fn truth(bytes: &[u8]) -> Result<(bool, &[u8]), Fault>
 
 #[tactic(auto, using(crate::proofs::Utf8::utf8_true, crate::proofs::Utf8::utf8_false), unfolding(crate::specs::Decoding::text_at))]
 pub fn text(alloc: Global, bytes: &[u8]) -> Result<(Text, &[u8]), Fault>
-    ensures { Gives (λ x. (x.0, x.1.now)) result (text_at bytes.now) }
+    ensures { ReadsAs (λ x. (x.0, x.1.now)) result (text_at bytes.now) }
 {
     let (len, behind) = number_16(bytes)?;
     if len > 4096 {

@@ -2,11 +2,11 @@
 
 ghost use Rattle.sal_value.specs.Coding.{NamesAreDecoded, ValuesAreDecoded};
 ghost use Rattle.sal_value.specs.Names.{LocatorsAreRead, NamesAreDecided, NamesAreGiven, NamesAreRead, NamesAreRefusedOnce};
-ghost use Rattle.sal_value.specs.Order.{KeysTellNames};
+ghost use Rattle.sal_value.specs.Order.{KeysAreInjective};
 
 /// A map by keys is a map from names.
-pub fn keys_tell_names()
-    ensures { KeysTellNames }
+pub fn keys_are_injective()
+    ensures { KeysAreInjective }
 {}
 
 /// Good names are those that reading gives, and each is read again from its text.

@@ -22,7 +22,7 @@ pub use boxed::Boxed;
 pub use clone_in::{CloneIn, copies};
 pub use constants::{LOCATOR_PORT, NAME_PORT, RESERVED};
 pub use laws::{
-    keys_tell_names, locators_are_read, names_are_decided, names_are_decoded, names_are_given,
+    keys_are_injective, locators_are_read, names_are_decided, names_are_decoded, names_are_given,
     names_are_read, names_are_refused_once, values_are_decoded,
 };
 pub use list::List;

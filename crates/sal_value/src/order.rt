@@ -4,7 +4,7 @@ ghost use Rattle.std.specs.Prelude.{◌≡◌, ◌++◌, ◌∷◌, [], drop, ma
 ghost use Rattle.std.specs.Iterator.{YieldsFirst, item_count};
 ghost use Rattle.std.specs.Ordering.{nat_cmp};
 ghost use Rattle.std.specs.Cmp.Lexicographic.{slice_cmp};
-ghost use Rattle.sal_value.specs.Names.{uan_text, lowered};
+ghost use Rattle.sal_value.specs.Names.{uan_text, lower_case};
 ghost use Rattle.sal_value.specs.Order.{key, uan_key};
 
 use crate::address::between;
@@ -22,9 +22,9 @@ struct TextBytes<'a> {
 impl<'a> Iterator for TextBytes<'a> {
     type Item = u8;
 
-    ghost next_gives = { YieldsFirst (λ t. lowered t.host.now ++ (t.port.now ++ t.path.now)) };
+    ghost next_gives = { YieldsFirst (λ t. lower_case t.host.now ++ (t.port.now ++ t.path.now)) };
 
-    ghost remaining = { item_count (λ t. lowered t.host.now ++ (t.port.now ++ t.path.now)) };
+    ghost remaining = { item_count (λ t. lower_case t.host.now ++ (t.port.now ++ t.path.now)) };
 
     fn next(&mut self) -> Option<u8> {
         if let Some((first, rest)) = self.host.split_first() {
@@ -43,8 +43,8 @@ impl<'a> Iterator for TextBytes<'a> {
 
 fn compare_bytes(left: TextBytes, right: TextBytes) -> Ordering
     ensures { result ≡ slice_cmp nat_cmp
-        (lowered left.entry.host.now ++ (left.entry.port.now ++ left.entry.path.now))
-        (lowered right.entry.host.now ++ (right.entry.port.now ++ right.entry.path.now)) }
+        (lower_case left.entry.host.now ++ (left.entry.port.now ++ left.entry.path.now))
+        (lower_case right.entry.host.now ++ (right.entry.port.now ++ right.entry.path.now)) }
 {
     left.cmp(right)
 }

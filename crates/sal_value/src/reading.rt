@@ -5,7 +5,7 @@ ghost use Rattle.std.specs.Char.{to_ascii_lowercase};
 ghost use Rattle.std.specs.List.{list_all};
 ghost use Rattle.std.specs.Fmt.{decimal};
 ghost use Rattle.std.specs.Str.{IsAscii};
-ghost use Rattle.sal_value.specs.Names.{lowered, is_host_byte, is_host as good_host, is_path_byte, is_path as good_path, is_uan_path, is_ual_path, NonePass, FirstPasses, ends_host, is_colon, is_slash, Parts, Written, any_path, IsPort, Refused, ReadsUan, ReadsUal};
+ghost use Rattle.sal_value.specs.Names.{lower_case, is_host_byte, is_host as good_host, is_path_byte, is_path as good_path, is_uan_path, is_ual_path, NonePass, FirstPasses, ends_host, is_colon, is_slash, Parts, Writes, any_path, IsPort, IsRefused, ReadsUan, ReadsUal};
 
 use crate::constants::{LOCATOR_PORT, NAME_PORT};
 use crate::name::{NameFault, Ual, Uan};
@@ -91,9 +91,9 @@ fn split_port(text: &[u8]) -> (&[u8], &[u8])
 
 /// The parts of the text, if it begins with this scheme in either case.
 fn cut<'t>(text: &'t [u8], scheme: &[u8]) -> Option<Pieces<'t>>
-    requires { lowered scheme.now ≡ scheme.now }
+    requires { lower_case scheme.now ≡ scheme.now }
     ensures { MatchOption result
-        ((written rest : List ℕ) → text.now ≡ written ++ rest → lowered written ≡ scheme.now → ⊥)
+        ((written rest : List ℕ) → text.now ≡ written ++ rest → lower_case written ≡ scheme.now → ⊥)
         (λ a. Parts scheme.now text.now a.host.now a.port.now a.path.now) }
 {
     if text.len() < scheme.len() {
@@ -110,7 +110,7 @@ fn cut<'t>(text: &'t [u8], scheme: &[u8]) -> Option<Pieces<'t>>
 
 /// The number that these digits write, of which the first isn't 0.
 #[tactic(auto, using(crate::proofs::Numbers::parsed_is))]
-fn parsed(digits: &[u8]) -> Option<u16>
+fn port_number(digits: &[u8]) -> Option<u16>
     requires low { 49 ≤ slice_index digits.now 0 }
     requires high { slice_index digits.now 0 ≤ 57 }
     ensures { MatchOption result
@@ -133,7 +133,7 @@ fn number(digits: &[u8]) -> Option<u16>
     if digits.is_empty() || digits[0] < b'1' || b'9' < digits[0] {
         return None;
     }
-    parsed(digits)
+    port_number(digits)
 }
 
 fn port_of(part: &[u8], usual: u16) -> Option<u16>
@@ -161,7 +161,7 @@ fn all_of_paths(path: &[u8]) -> bool
 /// A host in either case.
 #[tactic(auto, using(crate::proofs::Bytes::host_empty, crate::proofs::Bytes::host_long, crate::proofs::Bytes::host_fits))]
 fn is_host(host: &[u8]) -> bool
-    ensures { result ≡ good_host (lowered host.now) }
+    ensures { result ≡ good_host (lower_case host.now) }
 {
     if host.is_empty() || host.len() > 255 {
         return false;
@@ -217,10 +217,10 @@ fn is_ual_path(path: &[u8]) -> bool
 
 /// Reads all but the path.
 fn read_address<'t>(text: &'t [u8], scheme: &[u8], usual: u16) -> Result<Address<'t>, NameFault>
-    requires { lowered scheme.now ≡ scheme.now }
+    requires { lower_case scheme.now ≡ scheme.now }
     ensures { MatchResult result
-        (λ a. Written (any_path scheme.now usual) text.now a.host.now a.port a.path.now)
-        (λ f. Refused (any_path scheme.now usual) text.now f) }
+        (λ a. Writes (any_path scheme.now usual) text.now a.host.now a.port a.path.now)
+        (λ f. IsRefused (any_path scheme.now usual) text.now f) }
 {
     let Some(pieces) = cut(text, scheme) else {
         return Err(NameFault::Scheme);
@@ -253,8 +253,8 @@ fn ascii_text(alloc: Global, bytes: &[u8]) -> Result<Text, NoMemory>
 /// The text of a host, in lower case.
 #[tactic(auto, using(crate::proofs::Bytes::host_is_ascii))]
 fn host_text(alloc: Global, host: &[u8]) -> Result<Text, NoMemory>
-    requires { good_host (lowered host.now) ≡ true }
-    ensures { IfOk result (λ t. t ≡ lowered host.now) }
+    requires { good_host (lower_case host.now) ≡ true }
+    ensures { IfOk result (λ t. t ≡ lower_case host.now) }
 {
     let host = host.to_ascii_lowercase(alloc)?;
     ascii_text(alloc, host.as_slice())

@@ -3,7 +3,7 @@ use Rattle.std.proofs.Common.{◌≡◌, ℕ, List, [], Option, inl, inr, refl, 
 use Rattle.sal_ast.specs.declared.program.Program.{Program}
 use Rattle.salsa.specs.Form.{Spells}
 use Rattle.salsa.specs.Outside.{Held, OnFile, Rose, Outside}
-use Rattle.salsa.specs.Top.{Ran, Judged, Puts, RunCause, status_line}
+use Rattle.salsa.specs.Top.{RunsTo, IsJudgement, Puts, RunCause, status_line}
 use Rattle.salsa.proofs.Judging.{judged_first, on_file}
 
 module _ (status : ℕ) (name : List ℕ) (before after : Outside) where
@@ -43,7 +43,7 @@ module _ (status : ℕ) (name : List ℕ) (before after : Outside) where
     told = λ _. (puts, same);
   }
 
-  pub ran_cause : (output : List ℕ) → OnFile before.files.held name (λ whole. Ran whole output) → Puts 0 output status before.out after.out → after.err ≡ before.err → RunCause status name before after
+  pub ran_cause : (output : List ℕ) → OnFile before.files.held name (λ whole. RunsTo whole output) → Puts 0 output status before.out after.out → after.err ≡ before.err → RunCause status name before after
   ran_cause output ran puts same = record {
     wanted = 0;
     known = inl refl;
@@ -56,7 +56,7 @@ module _ (status : ℕ) (name : List ℕ) (before after : Outside) where
   }
 
 -- what judging the first bytes of a file says of the whole
-pub on_whole : (held : Option Held) (name bytes text : List ℕ) (o : Option (List ℕ)) → OnFile held name (λ whole. bytes ≡ take 262145 whole) → text ≡ bytes → Judged text o → OnFile held name (λ whole. Judged whole o)
+pub on_whole : (held : Option Held) (name bytes text : List ℕ) (o : Option (List ℕ)) → OnFile held name (λ whole. bytes ≡ take 262145 whole) → text ≡ bytes → IsJudgement text o → OnFile held name (λ whole. IsJudgement whole o)
 on_whole held name bytes text o file same j =
-    let P : List ℕ → Type 0 = λ t. Judged t o in
-    on_file held name (λ whole. bytes ≡ take 262145 whole) (λ whole. Judged whole o) (λ whole e. judged_first whole o (subst P (same ∙ e) j)) file
+    let P : List ℕ → Type 0 = λ t. IsJudgement t o in
+    on_file held name (λ whole. bytes ≡ take 262145 whole) (λ whole. IsJudgement whole o) (λ whole e. judged_first whole o (subst P (same ∙ e) j)) file

@@ -9,12 +9,12 @@ use Rattle.sal_source.specs.Configuration.{Configuration}
 use Rattle.sal_source.specs.Step.{IsFinal}
 use Rattle.sal_source.specs.Run.{play, IsFirstBad}
 use Rattle.sal_handler.specs.Fits.{meaning_of}
-use Rattle.sal_handler.specs.Listing.{stages_in}
+use Rattle.sal_handler.specs.code.Listing.{stages_in}
 use Rattle.sal_handler.specs.Prints.{Print, IsShort, AreShort, IsChainOfPrints}
 use Rattle.sal_source.specs.Prints.{trace, Runs, ChainsOfPrintsRun}
 use Rattle.salsa.specs.Form.{IsPlainIfThere, ArePrints, Spells}
 use Rattle.salsa.specs.Outside.{Held, OnFile}
-use Rattle.salsa.specs.Top.{joined, run_setup, Ran, Judged}
+use Rattle.salsa.specs.Top.{concat_texts, run_setup, RunsTo, IsJudgement}
 
 short_text : (text : Option (List ℕ × ℕ)) → IsPlainIfThere text → IsShort text
 short_text None h = tt
@@ -46,7 +46,7 @@ some_is : {A : Type 0} {a b : A} → Some a ≡ Some b → a ≡ b
 some_is e = cc
 
 pub ran_is : (text : List ℕ) (program : Program) (setup : Setup) (steps : List Step) (config : Configuration) (output : List ℕ) → ChainsOfPrintsRun → Spells text program → setup ≡ run_setup →
-    steps ≡ trace (length (stages_in program)) → play program setup steps ≡ Some config → output ≡ joined config.output → Ran text output
+    steps ≡ trace (length (stages_in program)) → play program setup steps ≡ Some config → output ≡ concat_texts config.output → RunsTo text output
 ran_is text program setup steps config output law sp s t e o =
     let r : Runs sp.outline run_setup = run_of text program law sp in
     let same : config ≡ r.end = some_is (sym e ∙ plays text program setup steps law sp s t) in
@@ -57,7 +57,7 @@ ran_is text program setup steps config output law sp s t e o =
       end = r.end;
       is_run = ap (λ p. play p run_setup (trace (length sp.outline.prints))) sp.is ∙ r.is_run;
       texts = r.output;
-      output_is = o ∙ ap (λ (d : Configuration). joined d.output) same;
+      output_is = o ∙ ap (λ (d : Configuration). concat_texts d.output) same;
       faults = r.faults;
       final = subst F (sym sp.is) r.final;
     }
@@ -75,13 +75,13 @@ take_is whole true e h =
     absurd (omega arith)
 take_is whole false e h = take_all 262145 whole (omega (arith, ltb-false _ _ e))
 
-pub judged_first : (whole : List ℕ) (o : Option (List ℕ)) → Judged (take 262145 whole) o → Judged whole o
+pub judged_first : (whole : List ℕ) (o : Option (List ℕ)) → IsJudgement (take 262145 whole) o → IsJudgement whole o
 judged_first whole None h = λ p sp.
     let all : take 262145 whole ≡ whole = take_all 262145 whole (let short : length whole ≤ 262144 = sp.outlines.short in omega arith) in
     let P : List ℕ → Type 0 = λ text. Spells text p in
     h p (subst P (sym all) sp)
 judged_first whole (Some output) h =
-    let P : List ℕ → Type 0 = λ text. Ran text output in
+    let P : List ℕ → Type 0 = λ text. RunsTo text output in
     subst P (take_is whole (nat_lt 262144 (length whole)) refl h.spells.outlines.short) h
 
 pub on_file : (held : Option Held) (name : List ℕ) (P Q : List ℕ → Type 0) → ((whole : List ℕ) → P whole → Q whole) → OnFile held name P → OnFile held name Q

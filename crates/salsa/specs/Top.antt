@@ -27,27 +27,27 @@ abbrev pub run_setup : Setup
 run_setup = record { authorities = record { host = codes "localhost"; port = NAME_PORT } ∷ []; words = [] }
 
 -- texts, one after another
-abbrev pub joined : List (List ℕ) → List ℕ
-joined [] = []
-joined (t ∷ ts) = t ++ joined ts
+abbrev pub concat_texts : List (List ℕ) → List ℕ
+concat_texts [] = []
+concat_texts (t ∷ ts) = t ++ concat_texts ts
 
 -- The text spells a program. Its trace, which handles `act` and then prints the stages in their
 -- order, is a run of the program's actor meaning, in which places don't exist. The run ends with
 -- exactly these texts and without a fault, and then no step but a post is possible.
-pub record Ran (text output : List ℕ) : Type 0 where
+pub record RunsTo (text output : List ℕ) : Type 0 where
   pub program : Program
   pub spells : Spells text program
   pub end : Configuration
   pub is_run : play program run_setup (trace (length spells.outline.prints)) ≡ Some end
   pub texts : end.output ≡ lines_of spells.outline.prints
-  pub output_is : output ≡ joined end.output
+  pub output_is : output ≡ concat_texts end.output
   pub faults : end.faults ≡ []
   pub final : IsFinal (meaning_of program) run_setup end
 
 -- what judging a text gives: the bytes that its program prints, or none where it spells no program
-abbrev pub Judged : List ℕ → Option (List ℕ) → Type 0
-Judged text None = (program : Program) → Spells text program → ⊥
-Judged text (Some output) = Ran text output
+abbrev pub IsJudgement : List ℕ → Option (List ℕ) → Type 0
+IsJudgement text None = (program : Program) → Spells text program → ⊥
+IsJudgement text (Some output) = RunsTo text output
 
 -- the line of a status on `err`
 abbrev pub status_line : ℕ → List ℕ
@@ -69,7 +69,7 @@ pub record RunCause (status : ℕ) (name : List ℕ) (before after : Outside) : 
   pub wanted : ℕ
   pub known : (wanted ≡ 0) ⊎ (wanted ≡ 2) ⊎ (wanted ≡ 5) ⊎ (wanted ≡ 7)
   pub output : List ℕ
-  pub ran : wanted ≡ 0 → OnFile before.files.held name (λ whole. Ran whole output)
+  pub ran : wanted ≡ 0 → OnFile before.files.held name (λ whole. RunsTo whole output)
   pub refused : wanted ≡ 2 → OnFile before.files.held name (λ whole. (program : Program) → Spells whole program → ⊥)
   pub file_fault : wanted ≡ 5 → Rose (before.files.faults name) (after.files.faults name)
   pub printed : wanted ≡ 0 → Puts wanted output status before.out after.out × (after.err ≡ before.err)

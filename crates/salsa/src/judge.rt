@@ -1,6 +1,6 @@
 //! What a program's text comes to: the bytes that it prints, or that it is refused.
 ghost use Rattle.std.specs.Prelude.{◌≡◌, IfOk};
-ghost use Rattle.salsa.specs.Top.{Judged, joined, run_setup};
+ghost use Rattle.salsa.specs.Top.{IsJudgement, concat_texts, run_setup};
 
 use crate::form::read_form;
 use sal_source::{Config, PlayFault, Setup, chains_of_prints_run, play, trace_of};
@@ -23,8 +23,8 @@ fn run_setup(alloc: Global) -> Result<Setup, NoMemory>
 }
 
 /// The texts, one after another.
-fn joined(alloc: Global, texts: &[Text]) -> Result<List<u8>, NoMemory>
-    ensures { IfOk result (λ bytes. bytes ≡ joined texts.now) }
+fn concat_texts(alloc: Global, texts: &[Text]) -> Result<List<u8>, NoMemory>
+    ensures { IfOk result (λ bytes. bytes ≡ concat_texts texts.now) }
 {
     let mut bytes = List::new(alloc);
     for text in texts {
@@ -35,14 +35,14 @@ fn joined(alloc: Global, texts: &[Text]) -> Result<List<u8>, NoMemory>
 
 /// The texts that a run has put out, in one piece.
 fn whole_output(alloc: Global, config: &Config) -> Result<List<u8>, NoMemory>
-    ensures { IfOk result (λ bytes. bytes ≡ joined config.now.configuration.output) }
+    ensures { IfOk result (λ bytes. bytes ≡ concat_texts config.now.configuration.output) }
 {
-    joined(alloc, config.output().as_slice())
+    concat_texts(alloc, config.output().as_slice())
 }
 
 /// Reads a program, and plays its run. None where the text spells no program of the form.
-pub fn judged(alloc: Global, text: &[u8]) -> Result<Option<List<u8>>, NoMemory>
-    ensures { IfOk result (λ output. Judged text.now output) }
+pub fn judge_text(alloc: Global, text: &[u8]) -> Result<Option<List<u8>>, NoMemory>
+    ensures { IfOk result (λ output. IsJudgement text.now output) }
 {
     let Some(program) = read_form(alloc, text)? else {
         return Ok(None);

@@ -3,7 +3,7 @@ ghost use Rattle.std.specs.Prelude.{◌≡◌, ◌≢◌, None};
 ghost use Rattle.salsa.specs.Outside.{outside};
 ghost use Rattle.salsa.specs.Top.{run_name, OnRunName, Puts, RunCause, Usage};
 
-use crate::judge::judged;
+use crate::judge::judge_text;
 use crate::outside::{Failed, Files, OutsideFault, Sink};
 use sal_ast::LONGEST_PROGRAM;
 use sal_value::{NoMemory, Text};
@@ -40,7 +40,7 @@ fn run<F: Files, O: Sink, E: Sink>(
         Err(OutsideFault::Failed) => return put(err, b"file fault\n", 5),
         Err(OutsideFault::Memory) => return put(err, b"no memory\n", 7),
     };
-    match judged(alloc, bytes.as_slice()) {
+    match judge_text(alloc, bytes.as_slice()) {
         Ok(Some(output)) => put(out, output.as_slice(), 0),
         Ok(None) => put(err, b"refused form\n", 2),
         Err(NoMemory) => put(err, b"no memory\n", 7),

@@ -1,7 +1,7 @@
 use Rattle.std.proofs.Common.{◌≡◌, ◌++◌, map, drop}
-use Rattle.sal_ast.specs.Spell.{lexemes, all, joined}
+use Rattle.sal_ast.specs.Spell.{lexemes, concat_tokens, separated_tokens}
 use Rattle.sal_ast.specs.Spell as spec
 use Rattle.sal_ast.proofs.spell_program.members.Given as goal
 
 abbrev pub invariant-loop-item : goal.invariant-loop-item
-invariant-loop-item l = l.out ++ lexemes (all (map spec.spell_member (drop l.item-index l.items))) ≡ l.fn.out ++ lexemes (all (map spec.spell_member l.items))
+invariant-loop-item l = l.out ++ lexemes (concat_tokens (map spec.spell_member (drop l.item-index l.items))) ≡ l.fn.out ++ lexemes (concat_tokens (map spec.spell_member l.items))

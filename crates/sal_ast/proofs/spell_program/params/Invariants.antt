@@ -1,8 +1,8 @@
 use Rattle.std.proofs.Common.{◌≡◌, ◌++◌, map, drop}
-use Rattle.sal_ast.specs.Spell.{lexemes, all, joined}
+use Rattle.sal_ast.specs.Spell.{lexemes, concat_tokens, separated_tokens}
 use Rattle.sal_ast.specs.Spell as spec
 use Rattle.sal_ast.proofs.SpellSteps.{go_on}
 use Rattle.sal_ast.proofs.spell_program.params.Given as goal
 
 abbrev pub invariant-loop-item : goal.invariant-loop-item
-invariant-loop-item l = l.out ++ lexemes (go_on l.begun "," (map spec.spell_param (drop l.item-index l.items))) ≡ l.fn.out ++ lexemes (joined "," (map spec.spell_param l.items))
+invariant-loop-item l = l.out ++ lexemes (go_on l.begun "," (map spec.spell_param (drop l.item-index l.items))) ≡ l.fn.out ++ lexemes (separated_tokens "," (map spec.spell_param l.items))

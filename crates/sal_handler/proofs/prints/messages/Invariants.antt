@@ -1,5 +1,5 @@
 use Rattle.std.proofs.Common.{◌≡◌, ◌+◌, ◌++◌, drop, length, None}
-use Rattle.sal_handler.specs.Listing as spec
+use Rattle.sal_handler.specs.code.Listing as spec
 use Rattle.sal_handler.proofs.prints.messages.Given as goal
 
 abbrev pub invariant-loop-stage : goal.invariant-loop-stage

@@ -2,7 +2,7 @@ use Rattle.std.proofs.Common.{ℕ, Some, ap, ◌∙◌}
 use Rattle.sal_mail.specs.declared.effects.Actor.{Actor}
 use Rattle.sal_source.specs.Table.{Table, write}
 use Rattle.sal_source.specs.Keys.{actor_key}
-use Rattle.sal_source.specs.Mapped.{actors_in}
+use Rattle.sal_source.specs.code.Maps.{actors_in}
 use Rattle.sal_source.proofs.Adding.{added}
 use Rattle.sal_source.proofs.actor_map.+add_all.Goals as goal
 

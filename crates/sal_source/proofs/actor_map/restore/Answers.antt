@@ -1,6 +1,6 @@
 use Rattle.std.proofs.Common.{Option, ap, sym, refl, ◌∙◌}
 use Rattle.sal_source.specs.Keys.{name_key, actor_key}
-use Rattle.sal_source.specs.Mapped.{actor_of, actors_in, put_back}
+use Rattle.sal_source.specs.code.Maps.{actor_of, actors_in, put_back}
 use Rattle.sal_source.specs.declared.actor_map.ActorState.{ActorState}
 use Rattle.sal_source.proofs.Mapping.{removed}
 use Rattle.sal_source.proofs.actor_map.restore.Goals as goal

@@ -1,6 +1,6 @@
 use Rattle.std.proofs.Common.{◌≡◌, drop}
 use Rattle.std.specs.List.{list_any}
-use Rattle.sal_source.specs.Possible.{is_decided}
+use Rattle.sal_source.specs.code.Possible.{is_decided}
 use Rattle.sal_source.proofs.creations.some_decided.Given as goal
 
 abbrev pub invariant-loop-item : goal.invariant-loop-item

@@ -1,6 +1,6 @@
 use Rattle.std.proofs.Common.{◌∙◌}
 use Rattle.sal_source.specs.Keys.{made_key}
-use Rattle.sal_source.specs.Listed.{key_by}
+use Rattle.sal_source.specs.code.Lists.{key_by}
 use Rattle.sal_source.proofs.Listing.{got_at, none_taken}
 use Rattle.sal_source.proofs.made.get.Goals as goal
 

@@ -1,6 +1,6 @@
 use Rattle.std.proofs.Common.{sym, ◌∙◌, add-one}
 use Rattle.sal_source.specs.Keys.{made_key}
-use Rattle.sal_source.specs.Listed.{key_by}
+use Rattle.sal_source.specs.code.Lists.{key_by}
 use Rattle.sal_source.proofs.Tables.{first_here, found-more, slice_get_is}
 use Rattle.sal_source.proofs.made.place_in.Goals as goal
 

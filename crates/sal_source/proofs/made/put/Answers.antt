@@ -1,5 +1,5 @@
 use Rattle.sal_source.specs.Keys.{made_key}
-use Rattle.sal_source.specs.Listed.{key_by}
+use Rattle.sal_source.specs.code.Lists.{key_by}
 use Rattle.sal_source.proofs.Listing.{put_at, put_last}
 use Rattle.sal_source.proofs.made.put.Goals as goal
 

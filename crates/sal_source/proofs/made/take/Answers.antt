@@ -1,5 +1,5 @@
 use Rattle.sal_source.specs.Keys.{made_key}
-use Rattle.sal_source.specs.Listed.{key_by}
+use Rattle.sal_source.specs.code.Lists.{key_by}
 use Rattle.sal_source.proofs.Listing.{took, none_taken, none_lost}
 use Rattle.sal_source.proofs.made.take.Goals as goal
 

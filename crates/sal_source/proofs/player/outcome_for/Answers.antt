@@ -4,7 +4,7 @@ use Rattle.sal_handler.specs.declared.turn.Outcome.{Outcome}
 use Rattle.sal_handler.specs.Calls.{Call}
 use Rattle.sal_handler.proofs.Listed.{names_are_free}
 use Rattle.sal_source.specs.Step as spec
-use Rattle.sal_source.specs.Mapped.{actor_of}
+use Rattle.sal_source.specs.code.Maps.{actor_of}
 use Rattle.sal_source.proofs.player.outcome_for.Goals as goal
 
 pub returns : goal.returns

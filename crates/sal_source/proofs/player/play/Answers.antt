@@ -1,6 +1,6 @@
 use Rattle.std.proofs.Common.{rules, ◌≡◌, ◌+◌, take, None, Some, ap, sym, add-one}
 use Rattle.sal_handler.specs.Fits.{meaning_of}
-use Rattle.sal_source.specs.Configuration.{first}
+use Rattle.sal_source.specs.Configuration.{first_configuration}
 use Rattle.sal_source.specs.Run.{steps, play}
 use Rattle.sal_source.specs.Step.{step}
 use Rattle.sal_source.proofs.Tables.{slice_get_is}
@@ -14,7 +14,7 @@ loop-i-init c = ap (λ d. Some d) (sym c.in_ok-run.ensures)
 pub returns-then-not-branch : goal.returns-then-not-branch
 returns-then-not-branch c =
     let gone : play c.args.program.now c.args.setup.now (take (c.loop-i.i + 1) c.args.steps.now) ≡ None =
-    played_on (meaning_of c.args.program.now) c.args.setup.now (first (meaning_of c.args.program.now) c.args.setup.now) c.loop-i.run c.args.steps.now c.loop-i.i c.index-steps-i.result None
+    played_on (meaning_of c.args.program.now) c.args.setup.now (first_configuration (meaning_of c.args.program.now) c.args.setup.now) c.loop-i.run c.args.steps.now c.loop-i.i c.index-steps-i.result None
     (slice_get_is c.args.steps.now c.loop-i.i c.index-steps-i.result c.loop-i-test.true c.index-steps-i.is) c.loop-i.invariant
     (took_no (step (meaning_of c.args.program.now) c.args.setup.now c.loop-i.run c.index-steps-i.result) c.in_ok-step.field-0 c.loop-i.run c.step.new.run c.in_ok-step.ensures (search rules)) in
     record {
@@ -22,11 +22,11 @@ returns-then-not-branch c =
       within = c.loop-i-test.true;
       good = c.loop-i.invariant;
       bad = rw (← add-one) gone;
-      whole = none_whole (meaning_of c.args.program.now) c.args.setup.now (first (meaning_of c.args.program.now) c.args.setup.now) c.args.steps.now (c.loop-i.i + 1) gone;
+      whole = none_whole (meaning_of c.args.program.now) c.args.setup.now (first_configuration (meaning_of c.args.program.now) c.args.setup.now) c.args.steps.now (c.loop-i.i + 1) gone;
     }
 
 pub loop-i-preserved : goal.loop-i-preserved
 loop-i-preserved c =
-    played_on (meaning_of c.args.program.now) c.args.setup.now (first (meaning_of c.args.program.now) c.args.setup.now) c.loop-i.run c.args.steps.now c.loop-i.i c.index-steps-i.result (Some c.step.new.run)
+    played_on (meaning_of c.args.program.now) c.args.setup.now (first_configuration (meaning_of c.args.program.now) c.args.setup.now) c.loop-i.run c.args.steps.now c.loop-i.i c.index-steps-i.result (Some c.step.new.run)
     (slice_get_is c.args.steps.now c.loop-i.i c.index-steps-i.result c.loop-i-test.true c.index-steps-i.is) c.loop-i.invariant
     (took_yes (step (meaning_of c.args.program.now) c.args.setup.now c.loop-i.run c.index-steps-i.result) c.in_ok-step.field-0 c.loop-i.run c.step.new.run c.in_ok-step.ensures (search rules))

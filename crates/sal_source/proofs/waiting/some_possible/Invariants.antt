@@ -1,6 +1,6 @@
 use Rattle.std.proofs.Common.{◌≡◌, drop}
 use Rattle.std.specs.List.{list_any}
-use Rattle.sal_source.specs.Possible.{is_possible}
+use Rattle.sal_source.specs.code.Possible.{is_possible}
 use Rattle.sal_source.proofs.waiting.some_possible.Given as goal
 
 abbrev pub invariant-loop-message : goal.invariant-loop-message

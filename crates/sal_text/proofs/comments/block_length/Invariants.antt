@@ -1,5 +1,5 @@
 use Rattle.std.proofs.Common.{◌≡◌, ◌+◌, drop, option_map}
-use Rattle.sal_text.specs.Reading.{block_length}
+use Rattle.sal_text.specs.code.Scanning.{block_length}
 use Rattle.sal_text.proofs.comments.block_length.Given as goal
 
 abbrev pub invariant-bytes : goal.invariant-bytes

@@ -1,7 +1,7 @@
 use Rattle.std.proofs.Common.{refl, ap, ◌∙◌}
 use Rattle.std.specs.FinMap as fm
 use Rattle.sal_source.specs.Keys.{name_key, actor_key}
-use Rattle.sal_source.specs.Mapped.{actor_of}
+use Rattle.sal_source.specs.code.Maps.{actor_of}
 use Rattle.sal_source.proofs.Mapping.{got, same_key}
 use Rattle.sal_source.proofs.actor_map.ActorMap.get.Goals as goal
 

@@ -2,9 +2,9 @@ use Rattle.std.proofs.Common.{refl, subst, false, not, List}
 use Rattle.std.specs.Prelude.{IsTrue, ◌↔◌}
 use Rattle.sal_value.specs.declared.name.Authority.{Authority}
 use Rattle.sal_source.specs.Keys.{creation_key}
-use Rattle.sal_source.specs.Listed.{AnyOf}
+use Rattle.sal_source.specs.code.Lists.{AnyOf}
 use Rattle.sal_source.specs.Configuration.{End}
-use Rattle.sal_source.specs.Possible.{is_decided}
+use Rattle.sal_source.specs.code.Possible.{is_decided}
 use Rattle.sal_source.specs.Step.{IsAtEnd}
 use Rattle.sal_source.specs.contracts.config.Config.{the_view}
 use Rattle.sal_source.proofs.Ends.{not_final, final_is}

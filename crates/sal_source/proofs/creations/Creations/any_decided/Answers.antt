@@ -1,7 +1,7 @@
 use Rattle.std.proofs.Common.{ap, ◌∙◌}
 use Rattle.std.specs.List.{list_any}
 use Rattle.sal_source.specs.Keys.{creation_key}
-use Rattle.sal_source.specs.Possible.{is_decided}
+use Rattle.sal_source.specs.code.Possible.{is_decided}
 use Rattle.sal_source.proofs.Ends.{any_of}
 use Rattle.sal_source.proofs.creations.Creations.any_decided.Goals as goal
 

@@ -5,7 +5,7 @@ use Rattle.sal_source.specs.Table.{Table, write, keys_of}
 use Rattle.sal_source.specs.Keys.{actor_key}
 use Rattle.sal_source.specs.Configuration.{Configuration}
 use Rattle.sal_source.specs.Step.{put_actors}
-use Rattle.sal_source.specs.Meeting.{committed}
+use Rattle.sal_source.specs.code.Handling.{with_change}
 use Rattle.sal_source.proofs.Given.{has_put, keys_put, keys_again}
 use Rattle.sal_source.proofs.run.Run.commit.Goals as goal
 
@@ -32,4 +32,4 @@ returns-clause-ok c =
       answers = c.in_ok-append.ensures.ok i;
       posted = c.self.inside.posted;
     })
-    ∙ ap (committed c.args.change) c.self.view_is
+    ∙ ap (with_change c.args.change) c.self.view_is

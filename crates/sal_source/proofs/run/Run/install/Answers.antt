@@ -3,7 +3,7 @@ use Rattle.sal_mail.specs.declared.effects.Actor.{Actor}
 use Rattle.sal_source.specs.Table.{write, keys_of}
 use Rattle.sal_source.specs.Keys.{name_key}
 use Rattle.sal_source.specs.Step.{put_actors}
-use Rattle.sal_source.specs.Meeting.{bound}
+use Rattle.sal_source.specs.code.Handling.{after_bind}
 use Rattle.sal_source.proofs.Given.{keys_write}
 use Rattle.sal_source.proofs.run.Run.install.Goals as goal
 
@@ -22,4 +22,4 @@ returns-clause-ok c =
       answers = c.self.inside.answers;
       posted = c.self.inside.posted;
     })
-    ∙ ap (bound c.args.actor c.args.maker.now c.args.serial) c.self.view_is
+    ∙ ap (after_bind c.args.actor c.args.maker.now c.args.serial) c.self.view_is

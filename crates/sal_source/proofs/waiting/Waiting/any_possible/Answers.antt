@@ -2,7 +2,7 @@ use Rattle.std.proofs.Common.{ap, ◌∙◌}
 use Rattle.std.specs.List.{list_any}
 use Rattle.sal_source.specs.Keys.{message_key}
 use Rattle.sal_source.specs.Configuration.{Waiting}
-use Rattle.sal_source.specs.Possible.{is_possible}
+use Rattle.sal_source.specs.code.Possible.{is_possible}
 use Rattle.sal_source.proofs.Ends.{any_of}
 use Rattle.sal_source.proofs.waiting.Waiting.any_possible.Goals as goal
 

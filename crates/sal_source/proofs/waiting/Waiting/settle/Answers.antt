@@ -1,6 +1,6 @@
 use Rattle.std.proofs.Common.{◌++◌, ap, sym, ◌∙◌, append-nil}
 use Rattle.std.specs.Prelude.{reverse}
-use Rattle.sal_source.specs.Give.{settled, told_after}
+use Rattle.sal_source.specs.Give.{settle_all, settle_all_answers}
 use Rattle.sal_source.proofs.Fuel.{settled_nil, told_nil}
 use Rattle.sal_source.proofs.Waits.{SettleStep, settle_step}
 use Rattle.sal_source.proofs.waiting.Waiting.settle.Goals as goal
@@ -19,6 +19,6 @@ loop-reply-preserved c =
 
 pub returns : goal.returns
 returns c = record {
-  waiting = sym (settled_nil c.loop-reply.self) ∙ ap (λ l. settled (reverse l) c.loop-reply.self) (sym c.in_default.ensures.0) ∙ c.loop-reply.invariant.same;
-  answers = sym (append-nil c.loop-reply.answers) ∙ ap (λ l. c.loop-reply.answers ++ l) (sym (told_nil c.loop-reply.self)) ∙ ap (λ l. c.loop-reply.answers ++ told_after (reverse l) c.loop-reply.self) (sym c.in_default.ensures.0) ∙ c.loop-reply.invariant.told;
+  waiting = sym (settled_nil c.loop-reply.self) ∙ ap (λ l. settle_all (reverse l) c.loop-reply.self) (sym c.in_default.ensures.0) ∙ c.loop-reply.invariant.same;
+  answers = sym (append-nil c.loop-reply.answers) ∙ ap (λ l. c.loop-reply.answers ++ l) (sym (told_nil c.loop-reply.self)) ∙ ap (λ l. c.loop-reply.answers ++ settle_all_answers (reverse l) c.loop-reply.self) (sym c.in_default.ensures.0) ∙ c.loop-reply.invariant.told;
 }

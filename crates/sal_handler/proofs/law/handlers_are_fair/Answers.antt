@@ -1,5 +1,0 @@
-use Rattle.sal_handler.proofs.FairCalls.{handlers_fair}
-use Rattle.sal_handler.proofs.law.handlers_are_fair.Goals as goal
-
-pub returns : goal.returns
-returns c = handlers_fair

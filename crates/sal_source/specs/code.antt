@@ -1,0 +1,5 @@
+pub mod Possible
+pub mod Lists
+pub mod Maps
+pub mod Changes
+pub mod Handling

@@ -1,7 +1,0 @@
-use Rattle.std.proofs.Common.{◌≡◌, ◌-◌, drop}
-use Rattle.sal_value.specs.Spelling.{room_behind}
-use Rattle.sal_value.proofs.Rooms.{rooms}
-use Rattle.sal_value.proofs.value.Value.+room_behind.Given as goal
-
-abbrev pub invariant-loop-item : goal.invariant-loop-item
-invariant-loop-item l = rooms (l.fn.depth - 1) (drop l.item-index l.item-items) l.left ≡ room_behind l.fn.self l.fn.depth l.fn.room
