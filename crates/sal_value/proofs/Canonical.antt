@@ -46,7 +46,7 @@ host_no_colon (b ∷ host) h =
     let parts = both (is_host_byte b) (list_all is_host_byte host) h in
     (no_colon b parts.0, host_no_colon host parts.1)
 
--- the parts of a canonical text behind the scheme
+-- the parts of a canonical text after the scheme
 address_is : (u : Uan) → is_host u.host ≡ true → drop 6 (uan_text u) ≡ u.host ++ 58 ∷ (decimal u.port ++ 47 ∷ u.path)
 unfolding uan_text
 address_is u h =

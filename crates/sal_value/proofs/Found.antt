@@ -28,7 +28,7 @@ wrong_not_ok field x e = cc
 le_from_not_lt : (m n : ℕ) → nat_lt n m ≡ false → nat_le m n ≡ true
 le_from_not_lt m n h = grind (arith, nat_tests)
 
--- a text behind its length
+-- a text after its length
 text_found : (bytes t behind rest : List ℕ) (n : ℕ) → Takes bytes (to_be_bytes w16 n) behind → Takes behind t rest → length t ≡ n → Takes bytes (text_bytes t) rest
 text_found bytes t behind rest n a b e =
     takes_then bytes (to_be_bytes w16 (length t)) behind t rest (subst (λ k. Takes bytes (to_be_bytes w16 k) behind) (sym e) a) b

@@ -42,7 +42,7 @@ array_at_depth depth bytes behind e low =
     let up : depth ≡ suc (depth - 1) = omega arith in
     ap (value_at depth) e ∙ ap (λ d. value_at d (4 ∷ behind)) up ∙ array_is (depth - 1) behind
 
--- the items begin behind the count
+-- the items begin after the count
 pub array_begins : (depth : ℕ) (bytes behind : List ℕ) (count k : ℕ) (rest : List ℕ) → bytes ≡ 4 ∷ behind → 0 < depth → k ≡ count → count_at behind ≡ Ok (count, rest)
     → arrayed [] (items_at (value_at (depth - 1)) k rest) ≡ value_at depth bytes
 array_begins depth bytes behind count k rest e low is counted =

@@ -69,7 +69,7 @@ room_ref n d room =
     ∙ ap (λ k. room_left (name_is_spelled n) k room) one
     ∙ left_after true (name_is_spelled n) 1 (length (name_spelling n)) room
 
--- what is left behind several values, one after the other
+-- what is left after several values, one after the other
 abbrev pub rooms : ℕ → List Value → ℕ → Option ℕ
 rooms d [] room = Some room
 rooms d (w ∷ ws) room = option_and_then (rooms d ws) (room_after w d room)
@@ -110,7 +110,7 @@ room_long items d room low long =
     ap (λ k. room_after (v.Array items) k room) up ∙ room_items items (d - 1) room
     ∙ ap (λ b. option_and_then (rooms (d - 1) items) (room_left b 3 room)) (le_false (length items) 4096 long)
 
--- an array's items begin behind its tag and its count
+-- an array's items begin after its tag and its count
 pub array_room : (w : Value) (items xs : List Value) (d room left : ℕ) → w ≡ v.Array items → xs ≡ items → 0 < d → length items ≤ 4096 → room_left true 3 room ≡ Some left → rooms (d - 1) xs left ≡ room_after w d room
 array_room w items xs d room left is same low short head =
     let up : d ≡ suc (d - 1) = omega arith in

@@ -75,7 +75,7 @@ item_fits w items xs i x is same lt at f =
     let all : list_all (λ item. fits item parts.1.0) xs ≡ true = ap (λ (ys : List Value). list_all (λ item. fits item parts.1.0) ys) same ∙ parts.1.1 in
     record { depth = parts.1.0; fits = ap (λ y. fits y parts.1.0) at ∙ all_at parts.1.0 xs i x lt all }
 
--- an array's items begin behind its tag and its count
+-- an array's items begin after its tag and its count
 pub items_begin : (old : List ℕ) (w : Value) (items xs : List Value) (count : List ℕ) → w ≡ v.Array items → xs ≡ items → count ≡ to_be_bytes w16 (length items)
     → ((old ++ 4 ∷ []) ++ count) ++ flat_map spelling xs ≡ old ++ spelling w
 items_begin old w items xs count is same counted =

@@ -15,7 +15,7 @@ use Rattle.sal_value.specs.declared.value.Value.{Value}
 use Rattle.sal_value.specs.declared.value.Value.TheVariants as value
 use Rattle.sal_value.specs.Names.{uan_text, is_uan, is_colon, is_slash}
 
--- What is read at the front of some bytes, and the bytes behind it.
+-- What is read at the front of some bytes, and the bytes after it.
 abbrev pub Reading : Type 0 → Type 0
 Reading A = Result (A × List ℕ) Fault
 

@@ -170,7 +170,7 @@ abbrev pub port_of : ℕ → List ℕ → Option ℕ
 port_of usual [] = Some usual
 port_of usual (colon ∷ digits) = port_of_digits digits
 
--- what stands behind a scheme
+-- what stands after a scheme
 abbrev pub after_scheme : List ℕ → List ℕ → Option (List ℕ)
 after_scheme scheme text = if bytes_eq (lower_case (take (length scheme) text)) scheme then Some (drop (length scheme) text) else None
 
@@ -179,7 +179,7 @@ abbrev pub good_parts : AddressForm → List ℕ → Option ℕ → List ℕ →
 good_parts kind host None path = None
 good_parts kind host (Some port) path = if is_host host && kind.path path then Some (host, (port, path)) else None
 
--- the parts of what stands behind the scheme, with the host in lower case
+-- the parts of what stands after the scheme, with the host in lower case
 abbrev pub parts_after_scheme : AddressForm → Option (List ℕ) → Option (List ℕ × (ℕ × List ℕ))
 parts_after_scheme kind None = None
 parts_after_scheme kind (Some text) =
@@ -230,7 +230,7 @@ pub record NamesAreGiven : Type 0 where
   pub ual : (text : List ℕ) (l : Ual) → ReadsUal text (Ok l) → ual_of text ≡ Some l
   pub no_ual : (text : List ℕ) (f : NameFault) → (f ≡ fault.Memory → ⊥) → ReadsUal text (Err f) → ual_of text ≡ None
 
--- A text is refused for one reason, apart from want of memory.
+-- A text is refused for one reason, apart from lack of memory.
 pub record NamesAreRefusedOnce : Type 0 where
   pub uan : (text : List ℕ) (f g : NameFault) → (f ≡ fault.Memory → ⊥) → (g ≡ fault.Memory → ⊥) → ReadsUan text (Err f) → ReadsUan text (Err g) → f ≡ g
   pub ual : (text : List ℕ) (f g : NameFault) → (f ≡ fault.Memory → ⊥) → (g ≡ fault.Memory → ⊥) → ReadsUal text (Err f) → ReadsUal text (Err g) → f ≡ g

@@ -10,7 +10,7 @@ use Rattle.sal_value.specs.Names.{uan_text, is_uan}
 
 -- ---- names
 
--- a text behind its length
+-- a text after its length
 abbrev pub text_bytes : List ℕ → List ℕ
 text_bytes text = to_be_bytes w16 (length text) ++ text
 

@@ -89,7 +89,7 @@ fn count(bytes: &[u8]) -> Result<(u16, &[u8]), Fault>
     Ok((count, rest))
 }
 
-/// What stands behind the tag of an array.
+/// What stands after the tag of an array.
 fn after_array_tag(bytes: &[u8]) -> Option<&[u8]>
     ensures { MatchOption result (is_array bytes.now ≡ false) (λ behind. bytes.now ≡ 4 ∷ behind.now) }
 {

@@ -11,7 +11,7 @@ use crate::no_memory::NoMemory;
 use crate::value::Value;
 use std::alloc::Global;
 
-/// Adds a text behind its length.
+/// Adds a text after its length.
 #[tactic(auto, using(crate::proofs::Writing::two_parts))]
 fn put_text(text: &[u8], out: &mut List<u8>) -> Result<(), NoMemory>
     requires { length text.now ≤ 65535 }

@@ -13,7 +13,7 @@ use crate::no_memory::NoMemory;
 use crate::text::Text;
 use std::alloc::Global;
 
-/// What stands behind a scheme: the port with its `:`, the path with its `/`.
+/// What stands after a scheme: the port with its `:`, the path with its `/`.
 #[derive(Clone, Copy)]
 struct Pieces<'t> {
     host: &'t [u8],
