@@ -20,7 +20,7 @@ use Rattle.sal_ast.specs.Brackets.{Bracket, Round, Square, Curly, TokenRole, Ope
 use Rattle.sal_ast.specs.Depth.{greatest, expr_depth, suffix_depth, at_depth, operand_depth, depth_expr, depth_suffix, depth_at, depth_operand}
 use Rattle.sal_ast.specs.Spell.{TreeToken, TreeTokens, tree_token, sign, concat_tokens, each_after_sign, separated_tokens, brackets, spell_base, spell_type, spell_op, spell_reference, expr_tokens, suffix_tokens, at_tokens, operand_tokens, spell_expr, spell_suffix, spell_at, spell_operand}
 
--- Behind these tokens each reading has what it had before them. At most `d + k` more brackets are open, and at most
+-- After these tokens each reading has what it had before them. At most `d + k` more brackets are open, and at most
 -- `2 d + k + 1` more brackets and signs wait.
 pub record Fits (d : ℕ) (k : ℕ) (ps : TreeTokens) : Type 0 where
   pub opened : (most : ℕ) (stack : List Bracket) → length stack + (d + k) ≤ most → state_after (bracket_step most) stack ps ≡ Some stack
@@ -39,7 +39,7 @@ after_append : (S : Type 0) (step : S → TokenRole → Option S) (ps qs : TreeT
 after_append S step [] qs s = refl
 after_append S step (p ∷ ps) qs s = after_step S step ps qs (after_append S step ps qs) (step s (role_of p))
 
--- behind a token, and behind several
+-- after a token, and after several
 behind_one : {S : Type 0} (step : S → TokenRole → Option S) (p : TreeToken) (ps : TreeTokens) (s t : S) (turn : TokenRole) → role_of p ≡ turn → step s turn ≡ Some t → state_after step s (p ∷ ps) ≡ state_after step t ps
 behind_one step p ps s t turn e f =
     ap (λ x. option_and_then (λ next. state_after step next ps) (step s x)) e ∙ ap (option_and_then (λ next. state_after step next ps)) f
@@ -123,7 +123,7 @@ square at f = enclosed (at_sign "[" at) (at_sign "]" None) Square refl refl f
 pub curly : {d k : ℕ} {x : TreeTokens} (at : Option ℕ) → Fits d k x → Fits d (suc k) (at_sign "{" at ∷ (x ++ sign "}"))
 curly at f = enclosed (at_sign "{" at) (at_sign "}" None) Curly refl refl f
 
--- a bracketed part behind others
+-- a bracketed part after others
 behind : {d k : ℕ} (t x : TreeTokens) (o c : TreeToken) → Fits d k (t ++ (o ∷ (x ++ c ∷ []))) → Fits d k (((t ++ o ∷ []) ++ x) ++ c ∷ [])
 behind {d = d} {k = k} t x o c f = subst (λ (ps : TreeTokens). Fits d k ps) (sym (ap (λ ps. ps ++ c ∷ []) (append_assoc t (o ∷ []) x) ∙ append_assoc t (o ∷ x) (c ∷ []))) f
 
@@ -144,7 +144,7 @@ fits f = record {
   waiting = λ most stack b l. let e : length (without_signs stack) ≡ length stack = ap length b in f.waiting most stack (omega arith) (omega arith) ∙ ap Some b;
 }
 
--- a first token that nothing waits behind
+-- a first token after which nothing waits
 begins : {d : ℕ} {ps : TreeTokens} {p : TreeToken} → role_of p ≡ Keeps → Fits d 0 ps → Begins d (p ∷ ps)
 begins {ps = ps} {p = p} e f = record {
   opened = λ most stack l. behind_one (bracket_step most) p ps stack stack Keeps e refl ∙ f.opened most stack (omega arith);
@@ -158,7 +158,7 @@ signed {ps = ps} {p = p} e f = record {
   waiting = λ most stack l m. behind_one (stack_step most) p ps stack (Before ∷ stack) Waits e (pushes most Before stack (omega arith)) ∙ f.waiting most (Before ∷ stack) (omega arith) (omega arith);
 }
 
--- a `-` between operands, with the one behind it
+-- a `-` between operands, with the one after it
 between : {d : ℕ} {ps : TreeTokens} {p : TreeToken} → role_of p ≡ Waits → Begins d ps → Fits d 0 (p ∷ ps)
 between {ps = ps} {p = p} e f = record {
   opened = λ most stack l. behind_one (bracket_step most) p ps stack stack Waits e refl ∙ f.opened most stack (omega arith);

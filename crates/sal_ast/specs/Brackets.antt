@@ -40,7 +40,7 @@ abbrev pub kind_role : Kind → List ℕ → TokenRole
 kind_role kind.Sign text = sign_role text
 kind_role _ text = Keeps
 
--- a bracket opens or closes; `-` and `!` may wait for the operand behind them
+-- a bracket opens or closes; `-` and `!` may wait for the operand after them
 abbrev pub role_of : TreeToken → TokenRole
 role_of p = kind_role p.kind p.text
 

@@ -78,7 +78,7 @@ shape rank regular = record { rank = rank; regular = regular }
 abbrev pub has_rank : ℕ → Shape → Bool
 has_rank rank x = nat_le rank x.rank && x.regular
 
--- an operator's rank, with the operand behind it
+-- an operator's rank, with the operand after it
 pub record RankedOperand : Type 0 where
   pub rank : ℕ
   pub value : Shape
@@ -213,7 +213,7 @@ property_is_regular (property.WaitFor at names) = has_any names
 unfoldable pub send_is_regular : Send → Bool
 send_is_regular m = aim_is_regular m.aim && list_all arg_is_regular m.args && list_all property_is_regular m.properties
 
--- whether each part of a statement stands where it may, and whether an `else` behind it would belong to it
+-- whether each part of a statement stands where it may, and whether an `else` after it would belong to it
 pub record Form : Type 0 where
   pub regular : Bool
   pub takes_else : Bool

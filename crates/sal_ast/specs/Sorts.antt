@@ -1,5 +1,6 @@
 -- The type of an expression, as it stands in the text. To which handler a message goes, and whether a
--- join is void, hangs on it. What has no type, as `null` has none of its own, or isn't well typed, has none.
+-- join is void, depends on it. It is the right one where the expression is well typed, and says nothing
+-- otherwise (`-"x"` gets `int`). `null` has no type of its own.
 use Rattle.std.specs.Prelude.{ℕ, zero, suc, ◌+◌, Bool, true, false, ◌||◌, nat_lt, if◌then◌else◌, List, [], ◌∷◌, ◌++◌, map, slice_get, codes, Option, Some, None, option_map}
 use Rattle.std.specs.List.{find}
 use Rattle.std.specs.Str.{bytes_eq}
@@ -114,7 +115,7 @@ name_sort name s = sort_of_local (find (λ v. bytes_eq v.name name) s.locals) (f
 
 -- ---- expressions
 
--- a type, or none, that hangs on what is in scope
+-- a type, or none, that depends on what is in scope
 abbrev pub SortInScope : Type 0
 SortInScope = Scope → Option Sort
 
@@ -235,7 +236,7 @@ message_result m s = aim_result m.aim m.handler.text s
 
 -- ---- chains and joins
 
--- what is in scope behind a statement, and the result of the first chain in it, if there is one
+-- what is in scope after a statement, and the result of the first chain in it, if there is one
 pub record ScopeAndResult : Type 0 where
   pub scope : Scope
   pub result : Option (Option Sort)
@@ -257,7 +258,7 @@ scope_with_local name sort s = record s { locals = s.locals ++ record { name = n
 abbrev pub no_change : Scope → ScopeAndResult
 no_change s = record { scope = s; result = None }
 
--- what a part declares is out of scope behind it
+-- what a part declares is out of scope after it
 abbrev pub inner_change : ScopeChange → ScopeChange
 inner_change m s = record { scope = s; result = (m s).result }
 
@@ -270,7 +271,7 @@ abbrev pub changes_in_order : List ScopeChange → ScopeChange
 changes_in_order [] s = no_change s
 changes_in_order (m ∷ ms) s = change_then m (changes_in_order ms) s
 
--- what stands behind `else`, if there is an `else`
+-- what stands after `else`, if there is an `else`
 abbrev pub else_change : Option ScopeChange → ScopeChange
 else_change None s = no_change s
 else_change (Some m) s = inner_change m s

@@ -164,7 +164,7 @@ expr_tokens (Expr-F.Paren at x) = sign_at "(" at ++ x ++ sign ")"
 -- ( "-" | "!" ) unary
 expr_tokens (Expr-F.Neg at x) = sign_at "-" at ++ x
 expr_tokens (Expr-F.Not at x) = sign_at "!" at ++ x
--- an operand, then operators of its level, each with an operand behind it
+-- an operand, then operators of its level, each with an operand after it
 expr_tokens (Expr-F.Level first rest) = first ++ concat_tokens rest
 -- primary { "[" expr "]" | "." "length" }
 expr_tokens (Expr-F.Suffixed first rest) = first ++ concat_tokens rest

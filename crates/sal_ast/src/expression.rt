@@ -19,7 +19,7 @@ pub enum Op {
     Rem,
 }
 
-/// An operator with the operand behind it.
+/// An operator with the operand after it.
 #[cycle(expr)]
 #[derive(Drop)]
 pub struct Operand {

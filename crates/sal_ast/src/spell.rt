@@ -326,7 +326,7 @@ fn location(
     }
 }
 
-/// A further text behind a comma.
+/// A further text after a comma.
 #[cycle(expr)]
 fn second(alloc: Global, out: &mut List<Lexeme>, text: &Option<Expr>) -> Result<(), NoMemory>
     ensures { OnOk result (Adds out.old out.new (spec.spell_second (option_map spec.spell_expr text.now))) }

@@ -368,7 +368,7 @@ fn params(alloc: Global, out: &mut List<Lexeme>, items: &[Param]) -> Result<(), 
     Ok(())
 }
 
-/// Parameters and the block behind them.
+/// Parameters and the block after them.
 #[tactic(auto, using(std::proofs::lemmas::Grind::common_steps))]
 fn signature(
     alloc: Global,

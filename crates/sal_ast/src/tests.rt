@@ -377,7 +377,7 @@ fn letter(kind: Kind) -> &'static str {
     }
 }
 
-/// The texts with a blank behind each, and a letter for each kind.
+/// The texts with a blank after each, and a letter for each kind.
 fn shown(alloc: Global, tokens: &[Lexeme]) -> Result<(Text, Text), NoMemory> {
     let mut texts = Text::new(alloc);
     let mut kinds = Text::new(alloc);
