@@ -11,7 +11,7 @@ map_more (Some n) i = ap (λ m. Some m) (let e : n + 1 + i ≡ n + (i + 1) = ome
 block_at : (c : ℕ) (cs : List ℕ) → (nat_eq c 42 && begins_slash cs) ≡ false → block_length (c ∷ cs) ≡ option_map (λ n. n + 1) (block_length cs)
 block_at c cs e = ap (λ b. cond b (Some 2) (option_map (λ n. n + 1) (block_length cs))) e
 
--- where no comment ends at a byte, the search goes on behind it
+-- where no comment ends at a byte, the search goes on after it
 pub block_step : (text : List ℕ) (i : ℕ) → i < length text → (nat_eq (get_or text i 0) 42 && begins_slash (drop (i + 1) text)) ≡ false →
     block_length text ≡ option_map (λ n. n + i) (block_length (drop i text)) → block_length text ≡ option_map (λ n. n + (i + 1)) (block_length (drop (i + 1) text))
 block_step text i lt e h =
@@ -30,7 +30,7 @@ pub map_none : (o : Option ℕ) → option_map (λ m. m + 1) o ≡ None → o �
 map_none None h = refl
 map_none (Some m) h = absurd (cc)
 
--- the first `*/` ends behind n bytes
+-- the first `*/` ends after n bytes
 pub record Ended (text : List ℕ) (n : ℕ) : Type 0 where
   pub inside : List ℕ
   pub rest : List ℕ

@@ -6,7 +6,7 @@ use Rattle.sal_text.specs.Tokens.{is_string_rest, is_string, is_in_line, is_empt
 use Rattle.sal_text.specs.code.Scanning.{length_to_quote}
 use Rattle.sal_text.proofs.Blocks.{map_is}
 
--- a string is closed behind n bytes
+-- a string is closed after n bytes
 pub record Closed (escaped : Bool) (text : List ℕ) (n : ℕ) : Type 0 where
   pub is : is_string_rest escaped (take n text) ≡ true
   pub within : n ≤ length text

@@ -28,7 +28,7 @@ blank_found c cs h =
 letter_byte : (c : ℕ) → is_letter c ≡ true → is_name_byte c ≡ true
 letter_byte c h = or_left (is_letter c) (is_digit c) h
 
--- a run behind its first byte
+-- a run after its first byte
 run_next : (is : ℕ → Bool) (c : ℕ) (cs : List ℕ) → is c ≡ true → run_length is (c ∷ cs) ≡ suc (run_length is cs)
 run_next is c cs h = ap (λ b. cond b (suc (run_length is cs)) 0) h
 
@@ -192,7 +192,7 @@ nothing : is_form [] ≡ false
 unfolding is_sign
 nothing = refl
 
--- a sign of one byte, behind which another makes no sign of two
+-- a sign of one byte, after which another makes no sign of two
 one_found : (c : ℕ) (cs : List ℕ) → short_sign c ≡ true → IsLongest (c ∷ []) cs → begins_comment (c ∷ cs) ≡ false → IsTokenAtFront kind.Sign 1 (c ∷ cs)
 one_found c cs s l n = record { some = omega arith; within = omega arith; stands = record { form = sign_one c ∙ s; longest = l; no_comment = n; kept = refl } }
 
@@ -305,7 +305,7 @@ some_first : (text : List ℕ) → 0 < length text → IsScanOf (scan_from (get_
 some_first [] h = absurd (omega arith)
 some_first (c ∷ cs) h = found c cs
 
--- what is found behind so many bytes
+-- what is found after so many bytes
 pub found_behind : (text : List ℕ) (at : ℕ) (of : Scan) → at < length text →
     of ≡ scan_from (get_or (take (length text - at) (drop at text)) 0 0) (take (length text - at) (drop at text)) → IsScanOf of (drop at text)
 found_behind text at of h e =

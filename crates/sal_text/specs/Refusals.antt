@@ -37,7 +37,7 @@ pub record IsBadNumber (text : List ℕ) : Type 0 where
   pub longest : IsLongest digits behind
   pub bad : is_number digits ≡ false
 
--- `/*` without a `*/` behind it
+-- `/*` without a `*/` after it
 pub record IsUnclosedComment (text : List ℕ) : Type 0 where
   pub inside : List ℕ
   pub spelled : text ≡ 47 ∷ 42 ∷ inside
@@ -80,7 +80,7 @@ Refuses rule.L3 at text = IsCutShort rule.L3 at text
 Refuses rule.L4 at text = IsCutShort rule.L4 at text
 Refuses rule.L5 at text = IsCutShort rule.L5 at text
 
--- the answer is the text's refusal, or want of memory
+-- the answer is the text's refusal, or that memory ran out
 abbrev pub IsRefusal : List ℕ → LexFault → Type 0
 IsRefusal text (fault.Refused rule at) = Refuses rule at text
 IsRefusal text fault.Memory = Unit {0}

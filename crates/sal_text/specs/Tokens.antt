@@ -32,7 +32,7 @@ abbrev pub is_digits : List ℕ → Bool
 is_digits [] = false
 is_digits (c ∷ cs) = list_all is_digit (c ∷ cs)
 
--- behind the first quote of a string: the last byte is the first quote that no backslash takes
+-- after the first quote of a string: the last byte is the first quote that no backslash takes
 -- with it, and there is no line feed; `escaped` says that a backslash takes the first byte
 -- (of a longer character the other bytes are neither quote nor backslash nor line feed)
 unfoldable pub is_string_rest : Bool → List ℕ → Bool
@@ -84,7 +84,7 @@ pub record IsToken (kind : Kind) (bytes rest : List ℕ) : Type 0 where
 
 -- ---- comments
 
--- `//` and all that stands on its line behind it
+-- `//` and all that stands on its line after it
 pub record IsLine (bytes rest : List ℕ) : Type 0 where
   pub inside : List ℕ
   pub spelled : bytes ≡ 47 ∷ 47 ∷ inside
@@ -100,7 +100,7 @@ abbrev pub holds_end : List ℕ → Bool
 holds_end [] = false
 holds_end (c ∷ cs) = nat_eq c 42 && begins_slash cs || holds_end cs
 
--- `/*`, and all up to the first `*/` behind it
+-- `/*`, and all up to the first `*/` after it
 pub record IsBlock (bytes : List ℕ) : Type 0 where
   pub inside : List ℕ
   pub spelled : bytes ≡ 47 ∷ 42 ∷ (inside ++ 42 ∷ 47 ∷ [])

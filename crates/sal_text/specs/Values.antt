@@ -4,7 +4,7 @@ use Rattle.std.specs.Str.Parse.{digits_value}
 use Rattle.sal_ast.specs.declared.lexeme.Kind.{Kind}
 use Rattle.sal_ast.specs.declared.lexeme.Kind.TheVariants as kind
 
--- the eight letters that may stand behind a backslash: `b t n f r " ' \`
+-- the eight letters that may stand after a backslash: `b t n f r " ' \`
 abbrev pub is_escape : ℕ → Bool
 is_escape c =
     nat_eq c 98 || nat_eq c 116 || nat_eq c 110 || nat_eq c 102 || nat_eq c 114 || nat_eq c 34 || nat_eq c 39 || nat_eq c 92

@@ -6,7 +6,7 @@ ghost use Rattle.sal_text.specs.code.Scanning.{length_to_quote};
 
 use crate::bytes::is_escape;
 
-/// How many bytes stand behind a quote up to the quote that closes its string, with it.
+/// How many bytes stand after a quote up to the quote that closes its string, with it.
 #[tactic(auto, unfolding(crate::specs::code::Scanning::length_to_quote))]
 pub fn length_to_quote(text: &[u8]) -> Option<usize>
     ensures value { result ≡ length_to_quote false text.now }
