@@ -13,7 +13,6 @@ use Rattle.sal_value.specs.declared.constants.TheConstants.{NAME_PORT, LOCATOR_P
 
 -- ---- canonical texts
 
--- in lower case
 abbrev pub lower_case : List ℕ → List ℕ
 lower_case bytes = map to_ascii_lowercase bytes
 
