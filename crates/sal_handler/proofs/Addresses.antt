@@ -86,7 +86,7 @@ abbrev head_of : List ℕ → ℕ
 head_of [] = 0
 head_of (x ∷ xs) = x
 
--- two tokens of one number and owner, two places of one join and number
+-- two tokens of one number and maker, two places of one join and number
 pub token_token : (o p : Name) (k n : ℕ) → reply_key (Tok o k) ≡ reply_key (Tok p n) → (k ≡ n) × (o ≡ p)
 token_token o p k n e = (ap (λ l. head_of (tail_of l)) e, same_names o p (ap (λ l. tail_of (tail_of l)) e))
 

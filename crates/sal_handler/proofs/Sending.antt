@@ -43,7 +43,7 @@ pieces_are : (text : Option (List ℕ × ℕ)) (r : Context) (before : Option �
 pieces_are None r before s short = refl
 pieces_are (Some text) r before s short = rw (no_token text.0 text.1 s, eval-Str text.0 text.1, text_is text.0 short) refl
 
--- a stage is the last one, or another one is behind it
+-- a stage is the last one, or another one is after it
 abbrev end_before : List Print → End
 end_before [] = end.Nobody
 end_before (p ∷ ps) = end.Token

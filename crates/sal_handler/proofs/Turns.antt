@@ -162,7 +162,7 @@ stills_pure a = record { at = λ s. (still s, omega arith) }
 stills_lift : {A : Type 0} (o : OrTrap A) → Stills (lift o)
 stills_lift {A} o = record { at = λ s. lift_after (λ (a : A). λ t. Takes 0 s t) o s (λ a e. (still s, omega arith)) }
 
--- behind n numbers a part that makes nothing, and then what rises from the beginning on
+-- after n numbers a part that makes nothing, and then what rises from the beginning on
 still_on : {A B : Type 0} (n : ℕ) (s t : State) (m : Eval A) (g : A → Eval B) → Takes n s t → Stills m → ((a : A) (u : State) → Takes n s u → After (λ (b : B). λ v. Rise s v) (g a u)) → After (λ (b : B). λ v. Rise s v) ((m >>= g) t)
 still_on {A} {B} n s t m g p f rest = then_after (λ (a : A). λ u. Takes 0 t u) (λ (b : B). λ v. Rise s v) (m t) g (f.at t) (λ a u q. rest a u (still_then s t u p.0 q.0, omega (arith, p.1, q.1)))
 
@@ -531,7 +531,7 @@ after_same (Returned v) a b s e = refl
 after_same Passed a b s e = refl
 
 module _ (test : Eval Bool) (body : Eval Flow) (f : Rises test) (g : Rises body) where
-  -- one test more, where the loop does the same behind it
+  -- one test more, where the loop does the same after it
   step_same : (k n : ℕ) (s : State) → ((u : State) → s.turns + 1 ≤ u.turns → u.turns ≤ 100000 → t.bounded_loop n test body u ≡ t.bounded_loop k test body u) → t.bounded_loop (suc n) test body s ≡ t.bounded_loop (suc k) test body s
   unfolding t.bounded_loop
   step_same k n s again = same_then (test s) _ _ (after_more (λ (b : Bool). λ u. Rise s u) _ (test s) by_test (f.at s))

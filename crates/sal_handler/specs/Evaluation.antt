@@ -46,7 +46,7 @@ trap k = λ s. Err k
 abbrev pub require : Bool → Trap → Eval (Unit {0})
 require b k = if b then pure tt else trap k
 
--- what a function gives and leaves, unless memory is wanting
+-- what a function gives and leaves, unless out of memory
 abbrev pub Gives : {A : Type 0} → OrTrap (A × State) → Result A Stop → State → Type 0
 Gives outcome (Ok a) new = outcome ≡ Ok (a, new)
 Gives outcome (Err (Trapped k)) new = outcome ≡ Err k

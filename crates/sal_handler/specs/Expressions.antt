@@ -20,11 +20,11 @@ use Rattle.sal_handler.specs.Values.{is_true, int_of, text_of, within_limits, op
 use Rattle.sal_handler.specs.Scopes.{Context, read_variable, read_field, take_serial, fresh_name}
 use Rattle.sal_handler.specs.declared.constants.TheConstants.{MOST_MADE}
 
--- what an expression does where this is read
+-- What an expression does, in a context. These four are the carriers of one fold.
 abbrev pub Denotation : Type 0
 Denotation = Context → Eval Value
 
--- an operator and what stands behind it
+-- an operator and its right side
 abbrev pub OperandDenotation : Type 0
 OperandDenotation = Op × Denotation
 
@@ -38,16 +38,16 @@ LocationDenotation = Denotation × Option Denotation
 
 -- ---- parts
 
--- the values of all, behind those that are done
+-- the values of all, after those that are done
 abbrev pub eval_all : List Denotation → Context → List Value → Eval (List Value)
 eval_all [] r done = pure done
 eval_all (e ∷ es) r done = e r >>= (λ v. eval_all es r (done ++ v ∷ []))
 
--- an operator behind this value: its right side is evaluated, unless the value decides by itself
+-- an operator after this value: its right side is evaluated, unless the value decides by itself
 abbrev pub apply_operator : OperandDenotation → Value → Denotation
 apply_operator p v r = if short_circuits p.0 v then pure (Truth (is_true v)) else (p.1 r >>= (λ w. lift (operate p.0 v w)))
 
--- operators of one rank behind this value, from left to right
+-- operators of one rank after this value, from left to right
 abbrev pub apply_operators : Value → List OperandDenotation → Denotation
 apply_operators v [] r = pure v
 apply_operators v (p ∷ ps) r = apply_operator p v r >>= (λ w. apply_operators w ps r)
@@ -57,12 +57,12 @@ abbrev pub apply_suffix : SuffixDenotation → Value → Denotation
 apply_suffix (Some e) v r = e r >>= (λ i. lift (item v (int_of i)))
 apply_suffix None v r = pure (length_of v)
 
--- indexes and `.length` behind this value, from left to right
+-- indexes and `.length` after this value, from left to right
 abbrev pub apply_suffixes : Value → List SuffixDenotation → Denotation
 apply_suffixes v [] r = pure v
 apply_suffixes v (p ∷ ps) r = apply_suffix p v r >>= (λ w. apply_suffixes w ps r)
 
--- the value of an expression, if there is one
+-- the value of an expression that may be missing
 abbrev pub eval_option : Option Denotation → Context → Eval (Option Value)
 eval_option None r = pure None
 eval_option (Some e) r = e r >>= (λ v. pure (Some v))

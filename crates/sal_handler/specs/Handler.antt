@@ -178,7 +178,6 @@ abbrev pub is_words_params : List Param → Bool
 is_words_params (x ∷ []) = is_string_base x.sort.base && nat_eq x.sort.dims 1
 is_words_params _ = false
 
--- there is no result
 abbrev pub has_no_result : Option TypeName → Bool
 has_no_result None = true
 has_no_result (Some t) = false

@@ -75,7 +75,7 @@ abbrev pub piece_of : Arg → Context → Option ℕ → Eval Piece
 piece_of (arg.Token at) r before = pure (piece_before before)
 piece_of (arg.Expr e) r before = λ s. piece_by (token_of e s) e r s
 
--- the arguments, behind those that are done
+-- the arguments, after those that are done
 abbrev pub eval_args : List Arg → Context → Option ℕ → List Piece → Eval (List Piece)
 eval_args [] r before done = pure done
 eval_args (a ∷ more) r before done = piece_of a r before >>= (λ p. eval_args more r before (done ++ p ∷ []))
@@ -137,7 +137,7 @@ serials_before_joins (i ∷ is) = option_serials i.before ++ serials_before_join
 abbrev pub add_if_new : List ℕ → ℕ → List ℕ
 add_if_new done n = if list_any (λ m. m == n) done then done else done ++ n ∷ []
 
--- the numbers behind those that are done, where of repeats the first one stays
+-- the numbers after those that are done, where of repeats the first one stays
 abbrev pub add_new : List ℕ → List ℕ → List ℕ
 add_new done [] = done
 add_new done (n ∷ ns) = add_new (add_if_new done n) ns
@@ -148,7 +148,7 @@ after_of properties before within s = add_new (add_new (add_new [] (waitfor_seri
 
 -- ---- to whom the reply is owed
 
--- to the next place of the innermost join; outside of joins to nobody
+-- to the next slot of the innermost join; outside of joins to nobody
 abbrev pub slot_reply : List EnclosingJoin → Context → Eval Reply
 slot_reply [] r = pure reply.Nobody
 slot_reply (i ∷ is) r = take_slot >>= (λ n. pure (reply.Place r.me i.join n))
@@ -223,7 +223,7 @@ send_if_valid m r before last None args delay = trap NullTarget
 send_if_valid m r before last (Some to) args None = trap BadDelay
 send_if_valid m r before last (Some to) args (Some delay) = take_message_serial >>= (λ n. reply_of_stage last r n >>= (λ owes. send_message m r before to args delay n owes))
 
--- A message stage behind the stage of this number evaluates its target, its arguments and its delay, and is
+-- A message stage after the stage of this number evaluates its target, its arguments and its delay, and is
 -- sent. It gives its number.
 unfoldable pub message : Send → Context → Option ℕ → End → Eval ℕ
 message m r before last =

@@ -118,7 +118,7 @@ print_message me before number p owes = record {
   reply = owes;
 }
 
--- a stage with a stage behind it owes its reply to its own token, the last one to nobody
+-- a stage with a stage after it owes its reply to its own token, the last one to nobody
 abbrev pub reply_before : Name → ℕ → List Print → Reply
 reply_before me number [] = reply.Nobody
 reply_before me number (p ∷ ps) = reply.Tok me number

@@ -20,7 +20,7 @@ use Rattle.sal_handler.specs.Evaluation.{OrTrap, and_then, Eval}
 use Rattle.sal_handler.specs.Values.{item_at, value_after_assign}
 use Rattle.sal_handler.specs.declared.constants.TheConstants.{MOST_MADE, MOST_TURNS, NO_THEATRE}
 
--- What a handler reads: whose it is, to whom the handled message owes its reply, the behaviours of the
+-- What a handler reads and doesn't change: whose it is, to whom the handled message owes its reply, the behaviours of the
 -- program, the number of its own, the joins whose blocks it is in, from the innermost outwards, the names
 -- that new actors take, and what makes the fields of a new actor. Initialisers and constructors make none.
 pub record Context : Type 0 where
@@ -36,7 +36,7 @@ pub record Context : Type 0 where
 abbrev pub variable_of : Local → Variable
 variable_of l = record { name = l.name; sort = l.sort }
 
--- what the types of expressions hang on: the behaviours, the number of the present one, and the locals
+-- what the types of expressions depend on: the behaviours, the number of the present one, and the locals
 abbrev pub scope_of : Context → State → Scope
 scope_of r s = record { behaviors = r.behaviors; mine = r.mine; locals = map variable_of s.locals }
 
@@ -123,11 +123,11 @@ declare name sort v = add_local name sort (held.Value v)
 abbrev pub declare_token : List ℕ → ℕ → Eval (Unit {0})
 declare_token name n = add_local name None (held.Token n)
 
--- only so many locals, the oldest ones, stay in scope
+-- only this many locals, the oldest ones, stay in scope
 abbrev pub keep_locals : ℕ → State → State
 keep_locals count s = record s { locals = take count s.locals }
 
--- does what m does; what m declares is out of scope behind it
+-- does what m does; what m declares is out of scope after it
 abbrev pub in_new_scope : {A : Type 0} → Eval A → Eval A
 in_new_scope m = λ s. and_then (m s) (λ r. Ok (r.0, keep_locals (length s.locals) r.1))
 
@@ -156,16 +156,16 @@ token_named name s = token_at (local_named name s.locals) s
 abbrev pub begin_turn : Eval (Unit {0})
 begin_turn = λ s. if nat_lt s.turns MOST_TURNS then Ok (tt, record s { turns = s.turns + 1 }) else Err TooManyTurns
 
--- The actor's next number. A handler begins with 4,096 numbers left, so the test never fails in one.
+-- The actor's next serial. A handler begins with at least 4,096 left, so the test never fails in one.
 abbrev pub take_serial : Eval ℕ
 take_serial = λ s. if nat_lt s.serial 18446744073709551615 then Ok (s.serial, record s { serial = s.serial + 1 }) else Err TooManyMessages
 
--- the next number, where so many of a kind are there: at most 1,024 messages, and as many joins
+-- the next serial, where so many of a kind are there: at most 1,024 messages, and as many joins
 abbrev pub take_limited_serial : ℕ → Eval ℕ
 take_limited_serial count = λ s. if nat_lt count MOST_MADE then take_serial s else Err TooManyMessages
 
--- The next place of the innermost join. Each place is for one of the handler's messages or joins, of which
--- there are at most 1,024 each, so at most 2,048 places are taken. The test against 4,096, the most items of an
+-- The next slot of the innermost join. Each slot is for one of the handler's messages or joins, of which
+-- there are at most 1,024 each, so at most 2,048 slots are taken. The test against 4,096, the most items of an
 -- array, never fails.
 abbrev pub take_slot : Eval ℕ
 take_slot = λ s. if nat_lt s.places 4096 then Ok (s.places, record s { places = s.places + 1 }) else Err TooManyMessages

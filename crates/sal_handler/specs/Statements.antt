@@ -28,15 +28,15 @@ use Rattle.sal_handler.specs.Scopes.{Context, scope_of, assign_variable, declare
 use Rattle.sal_handler.specs.Expressions.{Denotation, eval_all, eval, evals}
 use Rattle.sal_handler.specs.Messages.{message, reply_of_stage}
 
--- what a statement does where this is read, and how it ends
+-- what a statement does, in a context, and how it ends
 abbrev pub StmtDenotation : Type 0
 StmtDenotation = Context → Eval Flow
 
--- what a stage does behind the stage of this number, where its reply is owed so; it gives its own number
+-- what a stage does after the stage with this serial, where its reply is owed so; it gives its own serial
 abbrev pub StageDenotation : Type 0
 StageDenotation = Context → Option ℕ → End → Eval ℕ
 
--- what a declaration or an assignment does where this is read; it gives nothing
+-- what a declaration or an assignment does, in a context; it gives nothing
 abbrev pub Action : Type 0
 Action = Context → Eval (Unit {0})
 
@@ -68,7 +68,7 @@ abbrev pub sequence : List StmtDenotation → StmtDenotation
 sequence [] r = pure Next
 sequence (m ∷ ms) r = m r >>= (λ f. go_on_after f (sequence ms r))
 
--- a block: what its statements declare is out of scope behind it
+-- a block: what its statements declare is out of scope after it
 abbrev pub sequence_in_scope : List StmtDenotation → StmtDenotation
 sequence_in_scope list r = in_new_scope (sequence list r)
 
@@ -88,7 +88,7 @@ bounded_loop (suc n) test body = test >>= (λ t. if t then (begin_turn >> (body 
 abbrev pub loop_bound : ℕ
 loop_bound = 100001
 
--- a `while`: what its body declares is out of scope behind each turn
+-- a `while`: what its body declares is out of scope after each turn
 abbrev pub while_loop : Eval Bool → Eval Flow → Eval Flow
 while_loop test body = bounded_loop loop_bound test (in_new_scope body)
 
@@ -116,13 +116,13 @@ for_turn body next = in_new_scope body >>= (λ f. go_on_after f (next >> pure Ne
 unfoldable pub for_loop_in_scope : Eval (Unit {0}) → Eval Bool → Eval (Unit {0}) → Eval Flow → Eval Flow
 for_loop_in_scope first test next body = first >> bounded_loop loop_bound test (for_turn body next)
 
--- what the parentheses of a `for` declare is out of scope behind it
+-- what the parentheses of a `for` declare is out of scope after it
 unfoldable pub for_loop : Eval (Unit {0}) → Eval Bool → Eval (Unit {0}) → Eval Flow → Eval Flow
 for_loop first test next body = in_new_scope (for_loop_in_scope first test next body)
 
 -- ---- chains
 
--- a stage with a stage behind it owes its reply to its own token
+-- a stage with a stage after it owes its reply to its own token
 abbrev pub end_of : List StageDenotation → End → End
 end_of [] last = last
 end_of (m ∷ more) last = end.Token
@@ -132,7 +132,7 @@ abbrev pub chain : List StageDenotation → Context → Option ℕ → End → E
 chain [] r before last = pure before
 chain (m ∷ more) r before last = m r before (end_of more last) >>= (λ n. chain more r (Some n) last)
 
--- the last stage of a plain chain owes its reply to nobody, and in a join to the join's next place
+-- the last stage of a plain chain owes its reply to nobody, and in a join to the join's next slot
 abbrev pub plain_end : List EnclosingJoin → End
 plain_end [] = end.Nobody
 plain_end (i ∷ is) = end.Place
@@ -153,17 +153,17 @@ abbrev pub declare_reply : List ℕ → Option ℕ → Eval (Unit {0})
 declare_reply name (Some n) = declare_token name n
 declare_reply name None = pure tt
 
--- it is in scope behind its statement
+-- it is in scope after its statement
 abbrev pub exec_token_stmt : List ℕ → List StageDenotation → StmtDenotation
 exec_token_stmt name stages r = (chain stages r None end.Token >>= declare_reply name) >> pure Next
 
 -- ---- joins
 
--- a join stands open while its block is executed, and its places are counted from 0
+-- a join stands open while its block is executed, and its slots are counted from 0
 abbrev pub open_join : ℕ → Bool → Reply → Eval (Unit {0})
 open_join n void owes = λ s. Ok (tt, record s { places = 0; joins = s.joins ++ record { number = n; places = []; void = void; reply = owes } ∷ [] })
 
--- it has as many places as its block executed chains; then the places of the join around it are counted on
+-- it has as many slots as its block executed chains; then the slots of the join around it are counted on
 abbrev pub close_join : ℕ → ℕ → Bool → Reply → ℕ → State → State
 close_join i n void owes places s = record s { places = places; joins = slice_set s.joins i (record { number = n; places = replicate s.places None; void = void; reply = owes }) }
 
@@ -171,7 +171,7 @@ close_join i n void owes places s = record s { places = places; joins = slice_se
 abbrev pub within_join : ℕ → Option ℕ → Context → Context
 within_join n before r = record r { within = record { join = n; before = before } ∷ r.within }
 
--- The join n: it is opened, its block is executed, and it is closed with the places that the block
+-- The join n: it is opened, its block is executed, and it is closed with the slots that the block
 -- took. It gives n. A `return` in the block, which typing forbids, ends the block alone.
 abbrev pub exec_join : Bool → StmtDenotation → Context → Option ℕ → ℕ → Reply → Eval ℕ
 exec_join void exec_block r before n owes = λ s.
@@ -181,13 +181,14 @@ exec_join void exec_block r before n owes = λ s.
 abbrev pub take_join_serial : Eval ℕ
 take_join_serial = λ s. take_limited_serial (length s.joins) s
 
--- a join takes its number, and the place that its reply is owed to, before its block
+-- a join takes its number, and the slot that its reply is owed to, before its block
 abbrev pub exec_join_stage : (State → Bool) → StmtDenotation → Context → Option ℕ → End → Eval ℕ
 exec_join_stage void exec_block r before last = λ s. (take_join_serial >>= (λ n. reply_of_stage last r n >>= (λ owes. exec_join (void s) exec_block r before n owes))) s
 
 -- ---- statements
 
--- A stage, and what it does. The stage itself is there since whether a join is void hangs on its text.
+-- A stage, and what it does. Whether a join is void depends on its text: so this fold also sees the trees that
+-- it goes over (a paramorphism), and its carriers are pairs of a tree and its meaning.
 abbrev pub StageWithTree : Type 0
 StageWithTree = Stage × StageDenotation
 

@@ -119,14 +119,14 @@ abbrev pub IsLegalPiece : Piece → Type 0
 IsLegalPiece (Known v) = Legal v
 IsLegalPiece (Token n) = Unit {0}
 
--- the token of a new number, or a place of a new join
+-- the token of a new number, or a slot of a new join
 abbrev pub IsNewReply : Name → ℕ → ℕ → Reply → Type 0
 IsNewReply me from to Nobody = ⊥
 IsNewReply me from to (Tok maker n) = (maker ≡ me) × IsWithin from to n
 IsNewReply me from to (Place maker join at) = (maker ≡ me) × IsWithin from to join
 IsNewReply me from to (Outside n) = ⊥
 
--- owed to nobody, to a new address, or to whom the handled message owed its reply
+-- owed to nobody, to a new token or slot, or to whom the handled message owed its reply
 abbrev pub IsAllowedReply : Name → Reply → ℕ → ℕ → Reply → Type 0
 IsAllowedReply me caller from to r = (r ≡ Nobody) ⊎ ((r ≡ caller) ⊎ IsNewReply me from to r)
 
@@ -140,7 +140,7 @@ pub record IsGoodMessage (me : Name) (caller : Reply) (from to : ℕ) (sizes : L
 
 -- ---- replies
 
--- how often the new messages and joins owe a reply to this address
+-- how often the new messages and joins owe a reply to this key
 abbrev pub times_owed_by : List ℕ → List Message → List Join → ℕ
 times_owed_by a messages joins = total (λ m. owes a m.reply) messages + total (λ j. owes a j.reply) joins
 
@@ -158,14 +158,14 @@ HaveFreshNames fresh i (a ∷ actors) = (a.name ≡ fresh_name fresh i) × HaveF
 
 -- ---- the law
 
--- the reply is no token and no place of this actor with a number from this one on
+-- the reply is no token and no slot of this actor with a number from this one on
 abbrev pub IsOldReply : Name → ℕ → Reply → Type 0
 IsOldReply me from Nobody = Unit {0}
 IsOldReply me from (Tok maker n) = maker ≡ me → n < from
 IsOldReply me from (Place maker join at) = maker ≡ me → join < from
 IsOldReply me from (Outside n) = Unit {0}
 
--- A call with legal values and an old reply. Names have spellings, as all names of configurations do.
+-- A call with legal values and a reply owed to no number from the next one on. Names have spellings, as all names of configurations do.
 pub record IsSoundCall (c : Call) : Type 0 where
   pub fields : EachOf Legal c.fields
   pub args : EachOf Legal c.args
@@ -183,7 +183,7 @@ pub record IsOrderly (sizes : List ℕ) (c : Call) (e : Effects) : Type 0 where
   -- messages are the actor's own, with as many arguments as a stage of the program, and wait only for such numbers
   pub messages : EachOf (IsGoodMessage c.me c.reply c.serial e.serial sizes) e.messages
   pub joins : EachOf (λ j. IsAllowedReply c.me c.reply c.serial e.serial j.reply) e.joins
-  -- each address is owed at most once, and the handled message's only where the reply was passed on
+  -- to each at most one reply is owed, and the handled message's only where it was passed on
   pub owed_once : (r : Reply) → r ≢ Nobody → times_owed_by (reply_key r) e.messages e.joins ≤ 1
   pub passed : c.reply ≢ Nobody → times_owed_by (reply_key c.reply) e.messages e.joins ≤ passes e.answer
   -- new actors take the names in order, and fields stay as many as they were
@@ -199,10 +199,10 @@ pub record IsWellFormed (sizes : List ℕ) (c : Call) (e : Effects) : Type 0 whe
   pub creations : EachOf (λ x. EachOf Legal x.fields) e.creations
   pub fields : EachOf Legal e.fields
 
--- The effects of every handler of every program are orderly, where the reply is old,
+-- The effects of every handler of every program are orderly, where the reply is owed to no number from the next one on,
 abbrev pub HandlersAreOrderly : Type 0
 HandlersAreOrderly = (p : Program) (c : Call) (e : Effects) → IsOldReply c.me c.serial c.reply → handle p c ≡ Done e → IsOrderly (program_sizes p) c e
 
--- and fair, where the call is sound.
+-- and well-formed, where the call is sound.
 abbrev pub HandlersAreWellFormed : Type 0
 HandlersAreWellFormed = (p : Program) (c : Call) (e : Effects) → IsSoundCall c → handle p c ≡ Done e → IsWellFormed (program_sizes p) c e

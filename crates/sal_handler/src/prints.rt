@@ -80,7 +80,7 @@ fn output_handler(name: &str) -> u16
     if name == "println" { PRINTLN } else { PRINT }
 }
 
-/// To whom a stage with `left` stages behind it owes its reply.
+/// To whom a stage with `left` stages after it owes its reply.
 fn owed(alloc: Global, me: &Name, number: u64, left: usize) -> Result<Reply, NoMemory>
     ensures { IfOk result (λ owes. owes ≡ spec.owed_left me.now number left) }
 {

@@ -72,7 +72,6 @@ argument_in _ = []
 abbrev pub output_handler : List ℕ → ℕ
 output_handler name = if bytes_eq name (codes "println") then PRINTLN else PRINT
 
--- a message to the output
 abbrev pub output_message : Name → Option ℕ → ℕ → ℕ → List Piece → Reply → Message
 output_message me before number handler args owes = record {
   maker = me;
