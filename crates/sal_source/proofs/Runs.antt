@@ -52,7 +52,7 @@ use Rattle.sal_source.proofs.Waits.{resolve_keeps}
 abbrev sent : Option ℕ → ℕ → Print → Reply → Message
 sent = print_message start_name
 
--- to whom a stage owes its reply that has these stages behind it
+-- to whom a stage owes its reply that has these stages after it
 abbrev owed_to : ℕ → List Print → Reply
 owed_to = reply_before start_name
 
@@ -180,7 +180,7 @@ printed_is p before number last = rw (text_is p.text) (by_name (bytes_eq p.handl
     by_name true = refl
     by_name false = refl
 
--- what is left once the first message was taken out and its text was told
+-- what is left once the first message was taken out and its text was printed
 abbrev told_one : ℕ → ℕ → List Print → List (List ℕ) → Configuration
 told_one n number ps output = record (at n number [] output) { waiting = wait_for (chained (Some number) (number + 1) ps) }
 

@@ -66,7 +66,7 @@ module _ {X : Type 0} (key : X → TableKey) where
   rising (z ∷ xs) (suc i) zero x y s lt e f = absurd (omega arith)
   rising (z ∷ xs) (suc i) (suc j) x y s lt e f = rising xs i j x y (second _ _ s) (omega arith) e f
 
-  -- ---- a search by halves
+  -- ---- a binary search
 
   abbrev pub Below : TableKey → List X → ℕ → Type 0
   Below q xs low = (i : ℕ) (y : X) → i < low → slice_get xs i ≡ Some y → key_cmp (key y) q ≡ Less

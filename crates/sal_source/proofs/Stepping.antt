@@ -42,7 +42,7 @@ use Rattle.sal_source.proofs.Keeping.{IsActor, same_made, Fits, WasThere, IsKeye
 use Rattle.sal_source.proofs.Installing.{old_reply, kept_installed, goes_installed}
 use Rattle.sal_source.proofs.Telling.{one_given, few_given}
 
--- a step that keeps what runs keep, and tells one answer at most
+-- a step that keeps what runs keep, and gives one answer at most
 pub record Keeps (c d : Configuration) : Type 0 where
   pub kept : KeptIn d
   pub goes : GoesTo c d

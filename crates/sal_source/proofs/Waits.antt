@@ -104,7 +104,7 @@ resolve_keeps maker number value m = either (key_eq (name_key maker) (name_key m
     either true = refl
     either false = refl
 
--- a join's number and owner are told by the words of its key
+-- a join's number and maker are told by the words of its key
 pub words_tell : KeysAreInjective → (a b : ℕ × Name) → join_entry_key a ≡ join_entry_key b → a ≡ b
 words_tell tell a b e = λ i. (head_is e i, tell a.1 b.1 (tail_is e) i)
   where

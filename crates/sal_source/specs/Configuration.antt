@@ -1,4 +1,4 @@
--- Configurations: what is there between two steps. No place occurs in one.
+-- Configurations: what is there between two steps. No theatre occurs in one.
 use Rattle.std.specs.Prelude.{ℕ, List, [], ◌∷◌, refl}
 use Rattle.std.specs.Coded.{Coded, code_by, coded×, coded_ℕ, coded_list}
 use Rattle.std.specs.FinMap as fm
@@ -32,14 +32,14 @@ use Rattle.sal_source.specs.declared.state.Setup.{Setup}
 use Rattle.sal_source.specs.Table.{TableKey, key_cmp, Table, table_of}
 use Rattle.sal_source.specs.Keys.{name_key, message_key, actor_key}
 
--- What replies are given to: the pending messages by maker and number, and the open joins by owner and
+-- What replies are given to: the pending messages by maker and number, and the open joins by maker and
 -- number. A pending message has no delay.
 pub record Waiting : Type 0 where
   pub messages : Table Message
   pub joins : Table (Name × Join)
 
 -- Actors by name, each with its next number; the names ever given; the pending creations by maker and
--- number; what waits; what was told, oldest first: printed texts, faults, and answers to calls from
+-- number; what waits; what came out, oldest first: printed texts, faults, and answers to calls from
 -- outside; and the number of the last post, which is 0 before the first.
 pub record Configuration : Type 0 where
   pub actors : Table (Actor × ℕ)
@@ -62,7 +62,7 @@ pub record End : Type 0 where
 abbrev pub key_code : Coded TableKey
 key_code = coded_list coded_ℕ
 
--- the code of the open joins with their owners
+-- the code of the open joins with their makers
 abbrev pub joins_code : Coded (Table (Name × Join))
 joins_code = fm.code key_code (coded× name_row.coded join_row.coded)
 
@@ -84,7 +84,6 @@ actors_code = fm.code key_code (coded× actor_row.coded coded_ℕ)
 abbrev pub creations_code : Coded (Table (Name × Creation))
 creations_code = fm.code key_code (coded× name_row.coded creation_row.coded)
 
--- the code of configurations
 abbrev pub configuration_code : Coded Configuration
 configuration_code =
     code_by

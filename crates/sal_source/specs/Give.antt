@@ -13,13 +13,13 @@ use Rattle.sal_source.specs.Table.{key_eq, write, table_map}
 use Rattle.sal_source.specs.Keys.{name_key, made_key}
 use Rattle.sal_source.specs.Configuration.{Waiting, Configuration}
 
--- a reply that is to be given, and its value
+-- a reply that is due, and its value
 abbrev pub DueReply : Type 0
 DueReply = Reply × Value
 
 -- ---- messages
 
--- only the messages of the token's owner wait for it
+-- only the messages of the token's maker wait for it
 abbrev pub resolve : Name → ℕ → Value → Message → Message
 resolve maker number value m = cond (key_eq (name_key maker) (name_key m.maker)) (with_reply number value m) m
 
@@ -33,23 +33,23 @@ if_still_open j = cond (is_full j.1) None (Some j)
 abbrev pub full_join_reply : Join → List DueReply
 full_join_reply j = cond (is_full j) ((j.reply, join_value j) ∷ []) []
 
--- an open join with the value at this place, where it was empty
+-- an open join with the value in this slot, where it was empty
 abbrev pub owned_join_with_slot : ℕ → Value → Name × Join → Name × Join
 owned_join_with_slot at value j = (j.0, with_slot at value j.1)
 
--- the open join once the value came to the place, where there is such a join
+-- the open join once the value came to the slot, where there is such a join
 abbrev pub join_after_value : ℕ → Value → Option (Name × Join) → Option (Name × Join)
 join_after_value at value None = None
 join_after_value at value (Some j) = if_still_open (owned_join_with_slot at value j)
 
--- what it gives then
+-- the reply that it makes due then
 abbrev pub join_replies : ℕ → Value → Option (Name × Join) → List DueReply
 join_replies at value None = []
 join_replies at value (Some j) = full_join_reply (with_slot at value j.1)
 
 -- ---- one reply
 
--- what waits, once the value was given to the address
+-- what waits, once the reply was given
 abbrev pub give_to : Reply → Value → Waiting → Waiting
 give_to Nobody value w = w
 give_to (Outside number) value w = w
@@ -74,7 +74,7 @@ outside_answers (Place maker join at) value = []
 abbrev pub give_one : DueReply → Waiting → Waiting
 give_one g w = cond (is_legal g.1) (give_to g.0 g.1 w) w
 
--- what a reply gives on; a value that isn't legal gives nothing
+-- the replies that a reply makes due; a value that isn't legal makes none
 abbrev pub replies_if_legal : DueReply → Waiting → List DueReply
 replies_if_legal g w = cond (is_legal g.1) (replies_from g.0 g.1 w) []
 
@@ -90,13 +90,13 @@ settle zero gs w = w
 settle (suc n) [] w = w
 settle (suc n) (g ∷ gs) w = settle n (replies_if_legal g w ++ gs) (give_one g w)
 
--- the answers that they tell
+-- the answers to calls from outside on the way
 unfoldable pub settle_answers : ℕ → List DueReply → Waiting → List (ℕ × Value)
 settle_answers zero gs w = []
 settle_answers (suc n) [] w = []
 settle_answers (suc n) (g ∷ gs) w = answers_if_legal g ++ settle_answers n (replies_if_legal g w ++ gs) (give_one g w)
 
--- how many can be given at most: these, and one for each open join, since each that is released takes one out
+-- how many can be given at most: these, and one for each open join, since each reply of a join takes it out
 abbrev pub settle_bound : List DueReply → Waiting → ℕ
 settle_bound gs w = length gs + fm.len w.joins
 
@@ -104,7 +104,7 @@ settle_bound gs w = length gs + fm.len w.joins
 abbrev pub settle_all : List DueReply → Waiting → Waiting
 settle_all gs w = settle (settle_bound gs w) gs w
 
--- the answers to calls from outside that are told on the way
+-- the answers to calls from outside that come of it
 abbrev pub settle_all_answers : List DueReply → Waiting → List (ℕ × Value)
 settle_all_answers gs w = settle_answers (settle_bound gs w) gs w
 

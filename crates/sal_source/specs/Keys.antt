@@ -1,4 +1,4 @@
--- Names, messages, joins, creations and addresses as keys of tables.
+-- The keys of names, messages, joins and creations in tables.
 use Rattle.std.specs.Prelude.{ℕ, ◌∷◌}
 use Rattle.sal_value.specs.declared.name.Name.{Name}
 use Rattle.sal_value.specs.Order.{key}
@@ -8,19 +8,17 @@ use Rattle.sal_mail.specs.declared.effects.Actor.{Actor}
 use Rattle.sal_mail.specs.declared.effects.Creation.{Creation}
 use Rattle.sal_source.specs.Table.{TableKey}
 
--- the key of a name, by which names are told apart
 abbrev pub name_key : Name → TableKey
 name_key = key
 
--- what an actor made is told by its number and its maker
+-- the key of what an actor made: its number and its maker
 abbrev pub made_key : Name → ℕ → TableKey
 made_key maker serial = serial ∷ name_key maker
 
--- the key of a message: its number and its maker
 abbrev pub message_key : Message → TableKey
 message_key m = made_key m.maker m.serial
 
--- a join with its owner
+-- a join with its maker
 abbrev pub join_key : Name × Join → TableKey
 join_key j = made_key j.0 j.1.number
 

@@ -47,7 +47,7 @@ next_serial actors posted (Anon theatre n) = next_serial_of (fm.get actors (name
 next_serial actors posted (Uan u) = next_serial_of (fm.get actors (name_key (Uan u)))
 next_serial actors posted (Outside n) = one_if (nat_le n posted)
 
--- there is an open join with this owner and number
+-- there is an open join with this maker and number
 abbrev pub is_open_join : Name → ℕ → Configuration → Bool
 is_open_join maker number c = fm.contains_key c.waiting.joins (made_key maker number)
 

@@ -43,7 +43,6 @@ may_be_posted v = is_legal v && holds_universal v
 abbrev pub fits_post : ℕ → ℕ → Uan → ℕ → List Value → Bool
 fits_post last number to behavior args = nat_lt last number && (is_uan to && (not (nat_eq behavior OUTPUT) && list_all may_be_posted args))
 
--- the message of a post
 abbrev pub post_message : ℕ → Uan → ℕ → ℕ → List Value → Message
 post_message number to behavior handler args = record {
   maker = name.Outside number;

@@ -50,7 +50,7 @@ abbrev pub put_messages : List Message → Table Message → Table Message
 put_messages [] t = t
 put_messages (m ∷ ms) t = put_message m (put_messages ms t)
 
--- the join of this owner is open at its number
+-- the join of this maker is open at its number
 abbrev pub put_join : Name → Join → Table (Name × Join) → Table (Name × Join)
 put_join maker j t = write t (made_key maker j.number) (Some (maker, j))
 
@@ -82,11 +82,11 @@ give_names (a ∷ actors) given = fs.insert (give_names actors given) (name_key 
 abbrev pub drop_message : Name → ℕ → Configuration → Configuration
 drop_message maker serial c = record c { waiting = record c.waiting { messages = write c.waiting.messages (made_key maker serial) None } }
 
--- the fault is told, behind the earlier ones, with the maker and number of the message or creation
+-- one fault more, with the maker and number of the message or creation
 abbrev pub add_fault : FaultKind → Name → ℕ → Configuration → Configuration
 add_fault kind maker serial c = record c { faults = c.faults ++ record { maker = maker; serial = serial; kind = kind } ∷ [] }
 
--- the printed text is told, behind the earlier ones
+-- one printed text more
 abbrev pub add_output : List ℕ → Configuration → Configuration
 add_output text c = record c { output = c.output ++ text ∷ [] }
 
@@ -100,7 +100,7 @@ is_migrate_message m = nat_eq m.behavior OUTPUT && nat_eq m.handler MIGRATE
 abbrev pub understands : Actor → Message → Bool
 understands a m = nat_eq m.behavior a.behavior || is_migrate_message m
 
--- new actors take the fresh names, of which no place is known
+-- new actors take the fresh names, of which no theatre is known
 abbrev pub call_of : Message → Actor × ℕ → List Name → Call
 call_of m a fresh = record {
   me = a.0.name;
@@ -174,12 +174,12 @@ abbrev pub after_outcome : Outcome → Name → ℕ → List Name → Message �
 after_outcome (outcome.Done e) maker serial fresh m a c = if fits_fresh fresh e c then Some (give_all (step_replies e m.reply) (with_effects e a c)) else None
 after_outcome (outcome.Trap kind) maker serial fresh m a c = if_no_names fresh (add_fault (Trapped kind) maker serial c)
 
--- a message that went meets the actor
+-- a message that went is handled by the actor, or is the fault `no-handler`
 abbrev pub handle_by_actor : (Call → Outcome) → Name → ℕ → List Name → Message → Actor × ℕ → Configuration → Option Configuration
 handle_by_actor outcomes maker serial fresh m a c =
     if understands a.0 m then after_outcome (outcomes (call_of m a fresh)) maker serial fresh m a.0 c else if_no_names fresh (add_fault NoHandler maker serial c)
 
--- a message that went meets its actor; where there is none, the step isn't possible
+-- a message that went is handled by its actor; where there is none, the step isn't possible
 abbrev pub handle_if_actor : (Call → Outcome) → Name → ℕ → List Name → Message → Option (Actor × ℕ) → Configuration → Option Configuration
 handle_if_actor outcomes maker serial fresh m None c = None
 handle_if_actor outcomes maker serial fresh m (Some a) c = handle_by_actor outcomes maker serial fresh m a c
@@ -189,7 +189,7 @@ abbrev pub actor_at : Target → Configuration → Option (Actor × ℕ)
 actor_at (target.Actor n) c = fm.get c.actors (name_key n)
 actor_at target.Output c = None
 
--- the message goes, and meets the actor of its target
+-- the message goes, and is handled by the actor of its target
 abbrev pub handle_message : (Call → Outcome) → Name → ℕ → List Name → Message → Configuration → Option Configuration
 handle_message outcomes maker serial fresh m c = handle_if_actor outcomes maker serial fresh m (actor_at m.target c) (drop_message maker serial c)
 
@@ -221,7 +221,7 @@ abbrev pub print_to : Target → Message → Configuration → Option Configurat
 print_to target.Output m c = Some (give m.reply v.Null (add_output (message_text m) c))
 print_to (target.Actor n) m c = None
 
--- its text is told, and null is its reply
+-- its text is printed, and null is its reply
 abbrev pub print_message : Name → ℕ → Message → Configuration → Option Configuration
 print_message maker serial m c = print_to m.target m (drop_message maker serial c)
 

@@ -91,7 +91,7 @@ fn restore(states: &mut States, name: Name, old: Option<ActorState>)
     }
 }
 
-/// Adds the actors, from the last one on, each with next number 0. Without memory none is added.
+/// Adds the actors, from the last one on, each with next number 0. When out of memory none is added.
 fn add_all(states: &mut States, alloc: Global, more: List<Actor>) -> Result<(), NoMemory>
     ensures ok { OnOk result (actors_in states.new.entries ≡ put_actors more (actors_in states.old.entries)) }
     ensures err { OnErr result (actors_in states.new.entries ≡ actors_in states.old.entries) }
@@ -166,7 +166,7 @@ impl ActorMap {
         self.get(name).is_some()
     }
 
-    /// Adds the actors, each with next number 0. Without memory none is added.
+    /// Adds the actors, each with next number 0. When out of memory none is added.
     pub fn add_all(&mut self, alloc: Global, more: List<Actor>) -> Result<(), NoMemory>
         ensures ok { OnOk result (self.new ≡ put_actors more self.old) }
         ensures err { OnErr result (self.new ≡ self.old) }

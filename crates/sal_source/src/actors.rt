@@ -29,7 +29,7 @@ fn compare(actor: &(Actor, u64), sought: NameQuery<'_>) -> Ordering
     }
 }
 
-/// Whether there is an actor of this name, by halves.
+/// Whether there is an actor of this name, by binary search.
 fn is_there(actors: &[(Actor, u64)], sought: NameQuery<'_>) -> bool
     requires { IsSorted actor_key actors.now }
     ensures { result ≡ is_some (first_at_key actor_key (query_key sought.entry) actors.now) }

@@ -24,7 +24,7 @@ fn resolve(
     }
 }
 
-/// Gives the reply with this number to those of its owner's messages that wait for it.
+/// Gives the reply with this number to those of its maker's messages that wait for it.
 pub fn resolve_all(
     alloc: Global,
     maker: &Name,

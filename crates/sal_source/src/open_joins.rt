@@ -1,4 +1,4 @@
-//! The open joins, found by their numbers and owners.
+//! The open joins, found by their numbers and makers.
 
 ghost use Rattle.std.specs.Prelude.{◌≡◌, Some, None, IfSome, IfOk, OnOk};
 ghost use Rattle.std.specs.FinMap as fm;
@@ -13,7 +13,7 @@ use std::alloc::Global;
 use std::collections::BTreeMap;
 use std::marker::Model;
 
-/// What an open join is but for its owner and number.
+/// What an open join is but for its maker and number.
 #[derive(Drop)]
 pub struct OpenJoin {
     places: List<Option<Value>>,
@@ -23,7 +23,7 @@ pub struct OpenJoin {
 
 type Joins = BTreeMap<(u64, Name), OpenJoin>;
 
-/// The join of this key, with its owner.
+/// The join of this key, with its maker.
 fn join_at(key: (u64, Name), rest: OpenJoin) -> (Name, Join)
     ensures { result ≡ join_of (key, rest) }
 {
@@ -88,7 +88,7 @@ fn copied_rest(alloc: Global, rest: &OpenJoin) -> Result<OpenJoin, NoMemory>
     })
 }
 
-/// The open joins with their owners.
+/// The open joins with their makers.
 #[derive(Drop)]
 pub struct OpenJoins {
     joins: Joins,
@@ -130,7 +130,7 @@ impl OpenJoins {
         count(&self.joins)
     }
 
-    /// Takes out the owner's join of this number.
+    /// Takes out the maker's join of this number.
     pub fn take(&mut self, maker: Name, number: u64) -> Option<(Name, Join)>
         ensures taken { result ≡ fm.get self.old (made_key maker number) }
         ensures keyed { IfSome result (λ it. made_key maker number ≡ join_key it) }
@@ -139,7 +139,7 @@ impl OpenJoins {
         take(&mut self.joins, &(number, maker))
     }
 
-    /// Opens the owner's join.
+    /// Opens the maker's join.
     pub fn put(&mut self, maker: Name, join: Join) -> Result<(), NoMemory>
         ensures { OnOk result (self.new ≡ put_join maker join self.old) }
     {

@@ -62,7 +62,7 @@ impl Model for Run {
     } };
 }
 
-/// What a message meets that is to be handled.
+/// Who receives a message that is to be handled.
 #[derive(Clone, Copy)]
 pub enum Receiver<'a> {
     /// The message isn't pending or not ready, or there is no actor for it.
@@ -154,7 +154,8 @@ fn answer_replies(
     Ok(gives)
 }
 
-/// The messages and joins of a handler wait, and its replies are given. The answers that they tell.
+/// The messages and joins of a handler wait, and its replies are given. Gives the answers to calls
+/// from outside.
 fn settle_effects(
     alloc: Global,
     waiting: &mut Waiting,
@@ -326,7 +327,7 @@ impl Run {
         })
     }
 
-    /// What the pending message with this maker and number meets.
+    /// Who receives the pending message with this maker and number.
     pub fn receiver(&self, maker: &Name, serial: u64) -> Receiver<'_>
         ensures { IsReceiver maker.now serial self.now result }
     {
@@ -374,7 +375,7 @@ impl Run {
         }
     }
 
-    /// The step of a message of which `meets` says that its actor doesn't understand it.
+    /// The step of a message of which `receiver` says that its actor doesn't understand it.
     pub(crate) fn no_handler(
         &mut self,
         alloc: Global,

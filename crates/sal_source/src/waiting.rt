@@ -49,7 +49,7 @@ fn some_possible(messages: &[Message], actors: &Actors) -> bool
     false
 }
 
-/// The pending messages, and the open joins with their owners.
+/// The pending messages, and the open joins with their makers.
 #[derive(Drop)]
 pub struct Waiting {
     messages: List<Message>,
@@ -214,7 +214,7 @@ impl Waiting {
         Ok(None)
     }
 
-    /// Gives one reply, and answers what it gives on.
+    /// Gives one reply, and answers the reply that it makes due, if any.
     fn give_one(
         &mut self,
         alloc: Global,

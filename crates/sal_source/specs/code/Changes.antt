@@ -9,7 +9,7 @@ use Rattle.sal_source.specs.Configuration.{Waiting, Configuration}
 use Rattle.sal_source.specs.Give.{DueReply, full_join_reply, give_one, replies_if_legal, answers_if_legal, settle_all, settle_all_answers}
 use Rattle.sal_source.specs.Step as s
 
--- what a step that is possible leaves; after a refusal and after want of memory all is as before
+-- what a step that is possible leaves; after a refusal and when out of memory all is as before
 abbrev pub Takes : Option Configuration → Configuration → Result Bool NoMemory → Configuration → Type 0
 Takes outcome old (Ok true) new = outcome ≡ Some new
 Takes outcome old (Ok false) new = (outcome ≡ None) × (new ≡ old)
@@ -20,13 +20,13 @@ abbrev pub option_list : {A : Type 0} → Option A → List A
 option_list None = []
 option_list (Some a) = a ∷ []
 
--- one reply was given: what waits, the answers, and what it gives on
+-- one reply was given: what waits, the answers, and the replies that it makes due
 pub record GivesOne (g : DueReply) (old new : Waiting) (answers_old answers_new : List (ℕ × Value)) (more : List DueReply) : Type 0 where
   pub waiting : new ≡ give_one g old
   pub answers : answers_new ≡ answers_old ++ answers_if_legal g
   pub gives : more ≡ replies_if_legal g old
 
--- the first reply was given, and what it gives on stands before the others; the replies are listed last one first
+-- the first reply was given, and what it makes due stands before the others; the replies are listed last one first
 pub record GivesNext (g : DueReply) (old new : Waiting) (answers_old answers_new : List (ℕ × Value)) (left_old left_new : List DueReply) : Type 0 where
   pub waiting : new ≡ give_one g old
   pub answers : answers_new ≡ answers_old ++ answers_if_legal g

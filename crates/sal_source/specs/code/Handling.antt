@@ -36,7 +36,7 @@ pub record CalledBy (maker : Name) (serial : ℕ) (c : Configuration) (m : Messa
   pub there : s.actor_at m.target c ≡ Some a
   pub understands : s.understands a.0 m ≡ true
 
--- what a message meets
+-- who receives a message
 abbrev pub IsReceiver : Name → ℕ → Configuration → Receiver → Type 0
 IsReceiver maker serial c met.Nobody = (outcomes : Call → Outcome) (fresh : List Name) → s.handle_step outcomes maker serial fresh c ≡ None
 IsReceiver maker serial c met.NoHandler = (outcomes : Call → Outcome) (fresh : List Name) → s.handle_step outcomes maker serial fresh c ≡ s.fault_no_handler maker serial fresh c
@@ -83,7 +83,7 @@ with_change change c = record c {
   answers = c.answers ++ change.answers;
 }
 
--- the text and the answers were told
+-- one printed text and these answers more, and what waits then
 abbrev pub with_text_and_answers : List ℕ → Waiting → List (ℕ × Value) → Configuration → Configuration
 with_text_and_answers text waiting answers c = record c { waiting = waiting; output = c.output ++ text ∷ []; answers = c.answers ++ answers }
 

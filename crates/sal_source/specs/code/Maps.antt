@@ -30,11 +30,11 @@ abbrev pub query_key : NameQuery → TableKey
 query_key (sought.Any name) = name_key name.now
 query_key (sought.Universal u) = name_key (name.Uan u.now)
 
--- the join of an entry, with its owner
+-- the join of an entry, with its maker
 abbrev pub join_of : (ℕ × Name) × OpenJoin → Name × Join
 join_of e = (e.0.1, record { number = e.0.0; places = e.1.places; void = e.1.void; reply = e.1.reply })
 
--- the key of a join's number and owner
+-- the key of a join's number and maker
 abbrev pub join_entry_key : ℕ × Name → TableKey
 join_entry_key k = made_key k.1 k.0
 
