@@ -178,7 +178,7 @@ takes_read_word whole at bytes text rest n k =
     let e : after_word bytes text ≡ Some rest = takes_word whole (word_at bytes at) text rest n k in
     rw (e) (ap (λ p. Some (p, rest)) (sym k.stands))
 
--- ---- a sign behind what was found
+-- ---- a sign after what was found
 
 -- a sign that is no longer token's beginning
 pub record Alone (sign : List ℕ) : Type 0 where

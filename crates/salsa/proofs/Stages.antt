@@ -19,7 +19,7 @@ use Rattle.salsa.proofs.Strings.{IsString, string_is, takes_string}
 abbrev pub Leads : ℕ → List Token → List ℕ → List ℕ → Type 0
 Leads whole tokens text rest = (more : List Token) → Cuts whole more rest → Cuts whole (tokens ++ more) text
 
--- this was found, and behind it stand these tokens
+-- this was found, and after it stand these tokens
 abbrev pub Found : {A : Type 0} → Option (A × List ℕ) → A → ℕ → List Token → Type 0
 Found read a whole more = (rest : List ℕ) × (read ≡ Some (a, rest)) × Cuts whole more rest
 

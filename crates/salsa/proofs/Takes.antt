@@ -6,7 +6,7 @@ use Rattle.std.proofs.lemmas.Bool.{both_ways, false_from_ne_true, or_cases, and_
 use Rattle.salsa.specs.Tokens.{Token, Cut, Begins, StandsAt, IsLongest, is_token, is_blank}
 use Rattle.salsa.specs.Reading.{skip_blanks, place}
 
--- this token stands behind blanks, and the rest follows it
+-- this token stands after blanks, and the rest follows it
 pub record Takes (whole : ℕ) (token : Token) (text rest : List ℕ) : Type 0 where
   pub spelled : skip_blanks text ≡ token.bytes ++ rest
   pub is : is_token token.bytes ≡ true

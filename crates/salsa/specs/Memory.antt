@@ -29,7 +29,7 @@ is_listed calls = list_any (λ number. nat_eq number calls.next) calls.failing
 abbrev pub after_one : Calls → Calls
 after_one calls = record { failing = calls.failing; next = one_more calls.next }
 
--- whether a call failed, and not for want of memory
+-- whether a call failed, and not for being out of memory
 abbrev pub is_failed : Result (List ℕ) OutsideFault → Bool
 is_failed (Ok bytes) = false
 is_failed (Err Failed) = true

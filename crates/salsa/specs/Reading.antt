@@ -37,11 +37,11 @@ if_ended rest = cond (begins_name_byte rest) None (Some rest)
 unfoldable pub after_word : List ℕ → List ℕ → Option (List ℕ)
 after_word word text = option_and_then if_ended (after_sign word text)
 
--- the byte of what stands behind blanks, in a text of `whole` bytes of which this is left
+-- the byte of what stands after blanks, in a text of `whole` bytes of which this is left
 abbrev pub place : ℕ → List ℕ → ℕ
 place whole text = whole - length (skip_blanks text)
 
--- what was found, and what follows the sign behind it
+-- what was found, and what follows the sign after it
 abbrev pub behind : {A : Type 0} → List ℕ → A × List ℕ → Option (A × List ℕ)
 behind sign found = option_map (λ rest. (found.0, rest)) (after_sign sign found.1)
 

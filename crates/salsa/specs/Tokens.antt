@@ -33,7 +33,7 @@ abbrev pub is_empty : List ℕ → Bool
 is_empty [] = true
 is_empty (c ∷ cs) = false
 
--- behind the first quote of a string: the next quote that no backslash takes with it is the last
+-- after the first quote of a string: the next quote that no backslash takes with it is the last
 -- byte, and there is no line feed
 abbrev pub is_closed : Bool → List ℕ → Bool
 is_closed escaped [] = false

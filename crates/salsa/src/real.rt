@@ -27,7 +27,7 @@ pub struct RealSink<W: Drop> {
     pub faults: u64,
 }
 
-/// Want of memory, where the system's error tells it.
+/// Out of memory, where the system's error says so.
 fn fault_of(error: &io::Error) -> OutsideFault
     ensures memory { error_kind error.now ≡ ErrorKind.OutOfMemory → result ≡ OutsideFault.Memory }
     ensures other { error_kind error.now ≢ ErrorKind.OutOfMemory → result ≡ OutsideFault.Failed }

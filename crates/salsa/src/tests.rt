@@ -75,7 +75,7 @@ fn chain(alloc: Global, more: usize) -> Result<Text, NoMemory> {
     Ok(text)
 }
 
-/// The first program with so many blanks behind it that it has this many bytes.
+/// The first program with so many blanks after it that it has this many bytes.
 fn padded(alloc: Global, bytes: usize) -> Result<Text, NoMemory> {
     let mut text = Text::from_text(alloc, HELLO)?;
     for _ in HELLO.len()..bytes {

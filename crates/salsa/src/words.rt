@@ -23,7 +23,7 @@ pub fn given_words(alloc: Global, args: Args) -> Result<List<Text>, NoMemory>
     Ok(words)
 }
 
-/// What stands for words that the system can't give: want of memory where that is why, or else no
+/// What stands for words that the system can't give: out of memory where that is why, or else no
 /// words at all.
 pub fn withheld_words(alloc: Global, error: &io::Error) -> Result<List<Text>, NoMemory>
     ensures memory { error_kind error.now ≡ ErrorKind.OutOfMemory → IsErr result }

@@ -79,7 +79,7 @@ pub fn after_word<'a>(text: &'a [u8], word: &[u8]) -> Option<&'a [u8]>
     }
 }
 
-/// The byte of what stands behind blanks, in a text of `whole` bytes that ends in this.
+/// The byte of what stands after blanks, in a text of `whole` bytes that ends in this.
 fn place(whole: usize, rest: &[u8]) -> u32
     requires { whole ≤ 262144 }
     ensures { result ≡ place whole rest.now }
