@@ -7,6 +7,8 @@ use Rattle.std.specs.Str.{bytes_eq}
 use Rattle.std.specs.Str.Parse.{digits_value}
 use Rattle.sal_value.specs.declared.name.Uan.{Uan}
 use Rattle.sal_value.specs.declared.name.Ual.{Ual}
+use Rattle.sal_value.specs.declared.name.Name.{Name}
+use Rattle.sal_value.specs.declared.name.Name.TheVariants as name
 use Rattle.sal_value.specs.declared.name.NameFault.{NameFault}
 use Rattle.sal_value.specs.declared.name.NameFault.TheVariants as fault
 use Rattle.sal_value.specs.declared.constants.TheConstants.{NAME_PORT, LOCATOR_PORT}
@@ -23,6 +25,12 @@ address_text host port = lower_case host ++ 58 ∷ decimal port
 -- the canonical text of a name: `uan://host:port/path`
 unfoldable pub uan_text : Uan → List ℕ
 uan_text u = codes "uan://" ++ (address_text u.host u.port ++ 47 ∷ u.path)
+
+-- the text of any name: `anon:theatre:number`, `outside:number`, or the canonical text
+unfoldable pub name_text : Name → List ℕ
+name_text (name.Anon theatre number) = codes "anon:" ++ (decimal theatre ++ 58 ∷ decimal number)
+name_text (name.Outside number) = codes "outside:" ++ decimal number
+name_text (name.Uan u) = uan_text u
 
 -- the canonical text of a locator: `rmsp://host:port/`
 unfoldable pub ual_text : Ual → List ℕ

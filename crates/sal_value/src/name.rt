@@ -126,6 +126,30 @@ impl Authority {
 }
 
 impl Name {
+    ghost use Rattle.sal_value.specs.Names.{name_text};
+
+    /// `anon:theatre:number`, `outside:number`, or the canonical text of a universal name.
+    #[tactic(auto, unfolding(crate::specs::Names::name_text))]
+    pub fn text(&self, alloc: Global) -> Result<Text, NoMemory>
+        ensures { IfOk result (λ t. t ≡ name_text self.now) }
+    {
+        match self {
+            Name::Uan(uan) => uan.text(alloc),
+            Name::Anon(theatre, number) => {
+                let mut text = Text::from_text(alloc, "anon:")?;
+                text.push_str(theatre.to_string(alloc)?.as_str())?;
+                text.push_str(":")?;
+                text.push_str(number.to_string(alloc)?.as_str())?;
+                Ok(text)
+            }
+            Name::Outside(number) => {
+                let mut text = Text::from_text(alloc, "outside:")?;
+                text.push_str(number.to_string(alloc)?.as_str())?;
+                Ok(text)
+            }
+        }
+    }
+
     pub fn clone_in(&self, alloc: Global) -> Result<Name, NoMemory>
         ensures { IfOk result (λ n. n ≡ self.now) }
     {
