@@ -6,7 +6,7 @@ use Rattle.sal_value.specs.Order.{uan_key}
 use Rattle.sal_value.specs.Table.{write}
 use Rattle.sal_value.proofs.Tables.{written_same}
 use Rattle.sal_move.specs.declared.places.Known.{Known}
-use Rattle.sal_move.specs.Places.{Places, place_of, is_newer, is_news, learned, newer}
+use Rattle.sal_move.specs.Places.{Places, place_of, is_newer, is_news, with_place, newer}
 
 abbrev pub place : ℕ → ℕ → Known
 place theatre moves = record { theatre = theatre; moves = moves }
@@ -22,8 +22,8 @@ module _ (u : Uan) (theatre moves : ℕ) (t : Places) where
         at true = refl
         at false = refl
 
-    pub keeps_newer : (t' : Places) → t' ≡ write t (uan_key u) (Some k') → t' ≡ learned u theatre moves t
-    unfolding learned is_news
+    pub keeps_newer : (t' : Places) → t' ≡ write t (uan_key u) (Some k') → t' ≡ with_place u theatre moves t
+    unfolding with_place is_news
     keeps_newer t' new =
         new ∙ ap (λ x. write t (uan_key u) (Some x)) (ap (λ x. x.1) is) ∙ at (nat_lt k.moves moves)
         ∙ ap (λ o. if is_newer moves o then write t (uan_key u) (Some (place theatre moves)) else t) there
@@ -38,6 +38,6 @@ module _ (u : Uan) (theatre moves : ℕ) (t : Places) where
     unfolding is_news
     is_first = ap (is_newer moves) none
 
-    pub keeps_first : (t' : Places) → t' ≡ write t (uan_key u) (Some (place theatre moves)) → t' ≡ learned u theatre moves t
-    unfolding learned is_news
+    pub keeps_first : (t' : Places) → t' ≡ write t (uan_key u) (Some (place theatre moves)) → t' ≡ with_place u theatre moves t
+    unfolding with_place is_news
     keeps_first t' new = new ∙ ap (λ o. if is_newer moves o then write t (uan_key u) (Some (place theatre moves)) else t) none

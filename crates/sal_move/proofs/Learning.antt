@@ -9,8 +9,8 @@ use Rattle.sal_value.specs.Order.{uan_key}
 use Rattle.sal_value.specs.Table.{key_cmp, key_eq, write}
 use Rattle.sal_value.proofs.Tables.{get-write, same_words}
 use Rattle.sal_move.specs.declared.places.Known.{Known}
-use Rattle.sal_move.specs.Places.{Places, place_of, is_newer, is_news, learned}
-use Rattle.sal_move.specs.Laws.{learned_all, place_for, IsFirstWithMost, IsBest, FirstPlacesWithMostMovesAreKept}
+use Rattle.sal_move.specs.Places.{Places, place_of, is_newer, is_news, with_place}
+use Rattle.sal_move.specs.Laws.{with_places, place_for, IsFirstWithMost, IsBest, FirstPlacesWithMostMovesAreKept}
 
 -- ---- one more place
 
@@ -59,9 +59,9 @@ one_more ps (Some m) k h = better ps m k (nat_lt m.moves k.moves) refl h
 
 module _ (u : Uan) where
   -- what is known of the name after a place of a name was learned
-  place_after : (x : Uan × Known) (t : Places) → place_of u (learned x.0 x.1.theatre x.1.moves t)
+  place_after : (x : Uan × Known) (t : Places) → place_of u (with_place x.0 x.1.theatre x.1.moves t)
       ≡ (if is_newer x.1.moves (place_of x.0 t) then cond (key_eq (uan_key u) (uan_key x.0)) (Some x.1) (place_of u t) else place_of u t)
-  unfolding learned is_news
+  unfolding with_place is_news
   place_after x t = at (is_newer x.1.moves (place_of x.0 t))
     where
       at : (b : Bool) → place_of u (if b then write t (uan_key x.0) (Some x.1) else t) ≡ (if b then cond (key_eq (uan_key u) (uan_key x.0)) (Some x.1) (place_of u t) else place_of u t)
@@ -74,14 +74,14 @@ module _ (u : Uan) where
     listed false e = rw e refl
 
     -- the name's own place
-    known_same : (t : Places) → key_eq (uan_key u) (uan_key x.0) ≡ true → place_of u (learned x.0 x.1.theatre x.1.moves t) ≡ (if is_newer x.1.moves (place_of u t) then Some x.1 else place_of u t)
+    known_same : (t : Places) → key_eq (uan_key u) (uan_key x.0) ≡ true → place_of u (with_place x.0 x.1.theatre x.1.moves t) ≡ (if is_newer x.1.moves (place_of u t) then Some x.1 else place_of u t)
     known_same t e =
         place_after x t
         ∙ ap (λ c. if is_newer x.1.moves (place_of x.0 t) then cond c (Some x.1) (place_of u t) else place_of u t) e
         ∙ ap (λ k. if is_newer x.1.moves (fm.get t k) then Some x.1 else place_of u t) (sym (same_words (uan_key u) (uan_key x.0) e))
 
     -- a place of another name
-    known_other : (t : Places) → key_eq (uan_key u) (uan_key x.0) ≡ false → place_of u (learned x.0 x.1.theatre x.1.moves t) ≡ place_of u t
+    known_other : (t : Places) → key_eq (uan_key u) (uan_key x.0) ≡ false → place_of u (with_place x.0 x.1.theatre x.1.moves t) ≡ place_of u t
     known_other t e =
         place_after x t
         ∙ ap (λ c. if is_newer x.1.moves (place_of x.0 t) then cond c (Some x.1) (place_of u t) else place_of u t) e
@@ -91,21 +91,21 @@ module _ (u : Uan) where
         either true = refl
         either false = refl
 
-  kept : (xs : List (Uan × Known)) (ps : List Known) (t : Places) → IsBest ps (place_of u t) → IsBest (ps ++ filter_map (place_for u) xs) (place_of u (learned_all xs t))
+  kept : (xs : List (Uan × Known)) (ps : List Known) (t : Places) → IsBest ps (place_of u t) → IsBest (ps ++ filter_map (place_for u) xs) (place_of u (with_places xs t))
   kept [] ps t h = subst (λ l. IsBest l (place_of u t)) (sym (append-nil ps)) h
   kept (x ∷ xs) ps t h = at (key_eq (uan_key u) (uan_key x.0)) refl (λ qs g. kept xs qs new g)
     where
       new : Places
-      new = learned x.0 x.1.theatre x.1.moves t
+      new = with_place x.0 x.1.theatre x.1.moves t
 
       at : (b : Bool) → key_eq (uan_key u) (uan_key x.0) ≡ b
-          → ((qs : List Known) → IsBest qs (place_of u new) → IsBest (qs ++ filter_map (place_for u) xs) (place_of u (learned_all xs new)))
-          → IsBest (ps ++ filter_map (place_for u) (x ∷ xs)) (place_of u (learned_all xs new))
+          → ((qs : List Known) → IsBest qs (place_of u new) → IsBest (qs ++ filter_map (place_for u) xs) (place_of u (with_places xs new)))
+          → IsBest (ps ++ filter_map (place_for u) (x ∷ xs)) (place_of u (with_places xs new))
       at true e rest =
-          subst (λ l. IsBest l (place_of u (learned_all xs new))) (append_assoc ps (x.1 ∷ []) (filter_map (place_for u) xs) ∙ ap (λ l. ps ++ l) (sym (listed x xs true e)))
+          subst (λ l. IsBest l (place_of u (with_places xs new))) (append_assoc ps (x.1 ∷ []) (filter_map (place_for u) xs) ∙ ap (λ l. ps ++ l) (sym (listed x xs true e)))
           (rest (ps ++ x.1 ∷ []) (subst (IsBest (ps ++ x.1 ∷ [])) (sym (known_same x xs t e)) (one_more ps (place_of u t) x.1 h)))
       at false e rest =
-          subst (λ l. IsBest l (place_of u (learned_all xs new))) (ap (λ l. ps ++ l) (sym (listed x xs false e)))
+          subst (λ l. IsBest l (place_of u (with_places xs new))) (ap (λ l. ps ++ l) (sym (listed x xs false e)))
           (rest ps (subst (IsBest ps) (sym (known_other x xs t e)) h))
 
 pub first_places_kept : FirstPlacesWithMostMovesAreKept

@@ -6,12 +6,12 @@ use Rattle.sal_value.specs.declared.name.Uan.{Uan}
 use Rattle.sal_value.specs.Order.{uan_key}
 use Rattle.sal_value.specs.Table.{key_eq}
 use Rattle.sal_move.specs.declared.places.Known.{Known}
-use Rattle.sal_move.specs.Places.{Places, place_of, learned}
+use Rattle.sal_move.specs.Places.{Places, place_of, with_place}
 
 -- the table after these places were learned, one after another
-abbrev pub learned_all : List (Uan × Known) → Places → Places
-learned_all [] t = t
-learned_all (x ∷ xs) t = learned_all xs (learned x.0 x.1.theatre x.1.moves t)
+abbrev pub with_places : List (Uan × Known) → Places → Places
+with_places [] t = t
+with_places (x ∷ xs) t = with_places xs (with_place x.0 x.1.theatre x.1.moves t)
 
 -- the place, where it is one of this name
 abbrev pub place_for : Uan → Uan × Known → Option Known
@@ -31,4 +31,4 @@ IsBest places None = places ≡ []
 IsBest places (Some k) = IsFirstWithMost places k
 
 abbrev pub FirstPlacesWithMostMovesAreKept : Type 0
-FirstPlacesWithMostMovesAreKept = (xs : List (Uan × Known)) (u : Uan) → IsBest (filter_map (place_for u) xs) (place_of u (learned_all xs fm.empty))
+FirstPlacesWithMostMovesAreKept = (xs : List (Uan × Known)) (u : Uan) → IsBest (filter_map (place_for u) xs) (place_of u (with_places xs fm.empty))

@@ -29,8 +29,8 @@ unfoldable pub is_news : Uan → ℕ → Places → Bool
 is_news u moves t = is_newer moves (place_of u t)
 
 -- the table after learning that the actor was in this theatre after so many moves
-unfoldable pub learned : Uan → ℕ → ℕ → Places → Places
-learned u theatre moves t = if is_news u moves t then write t (uan_key u) (Some (record { theatre = theatre; moves = moves })) else t
+unfoldable pub with_place : Uan → ℕ → ℕ → Places → Places
+with_place u theatre moves t = if is_news u moves t then write t (uan_key u) (Some (record { theatre = theatre; moves = moves })) else t
 
 abbrev pub hop : Uan → Places → Option ℕ
 hop u t = option_map (λ k. k.theatre) (place_of u t)

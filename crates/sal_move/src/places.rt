@@ -5,7 +5,7 @@ ghost use Rattle.std.specs.Option.{option_copied};
 ghost use Rattle.std.specs.FinMap as fm;
 ghost use Rattle.sal_value.specs.Order.{uan_key};
 ghost use Rattle.sal_value.specs.Table.{table_by};
-ghost use Rattle.sal_move.specs.Places.{place_of, is_news, learned, hop, newer};
+ghost use Rattle.sal_move.specs.Places.{place_of, is_news, with_place, hop, newer};
 ghost use Rattle.sal_move.specs.Laws.{FirstPlacesWithMostMovesAreKept};
 
 use sal_value::{NoMemory, Uan};
@@ -84,7 +84,7 @@ impl Whereabouts {
         moves: u64,
     ) -> Result<bool, NoMemory>
         ensures news { IfOk result (λ news. news ≡ is_news name moves self.old) }
-        ensures ok { OnOk result (self.new ≡ learned name theatre moves self.old) }
+        ensures ok { OnOk result (self.new ≡ with_place name theatre moves self.old) }
         ensures err { OnErr result (self.new ≡ self.old) }
     {
         if let Some(known) = self.places.get_mut(&name) {

@@ -33,8 +33,8 @@ abbrev pub if_standing : Entry → Option Entry
 if_standing e = if e.withdrawn then None else Some e
 
 -- what is kept of a name that was given and not withdrawn
-abbrev pub standing : Uan → Names → Option Entry
-standing u t = option_and_then if_standing (entry_of u t)
+abbrev pub standing_entry : Uan → Names → Option Entry
+standing_entry u t = option_and_then if_standing (entry_of u t)
 
 -- the table with this kept of the name
 abbrev pub keep : Uan → Entry → Names → Names
@@ -51,18 +51,18 @@ put_name u place t = put_by (entry_of u t) u place t
 
 -- ---- get
 
-abbrev pub found_of : Option Entry → Option (Ual × ℕ)
-found_of None = None
-found_of (Some e) = Some (e.place, e.moves)
+abbrev pub place_and_moves_of : Option Entry → Option (Ual × ℕ)
+place_and_moves_of None = None
+place_and_moves_of (Some e) = Some (e.place, e.moves)
 
 -- locator and moves, where the name was given and not withdrawn
 unfoldable pub get_name : Uan → Names → Option (Ual × ℕ)
-get_name u t = found_of (standing u t)
+get_name u t = place_and_moves_of (standing_entry u t)
 
 -- locator and moves, where an answer has them
-abbrev pub found : Get → Option (Ual × ℕ)
-found (get.At place moves) = Some (place.now, moves)
-found get.NotFound = None
+abbrev pub place_and_moves : Get → Option (Ual × ℕ)
+place_and_moves (get.At place moves) = Some (place.now, moves)
+place_and_moves get.NotFound = None
 
 -- ---- update: only by more moves
 
@@ -71,7 +71,7 @@ update_by None u place moves t = (updated.NotFound, t)
 update_by (Some e) u place moves t = if nat_lt e.moves moves then (updated.Done, keep u (record e { place = place; moves = moves }) t) else (updated.Stale, t)
 
 unfoldable pub update_name : Uan → Ual → ℕ → Names → Updated × Names
-update_name u place moves t = update_by (standing u t) u place moves t
+update_name u place moves t = update_by (standing_entry u t) u place moves t
 
 -- ---- delete: a name is withdrawn for good
 
@@ -80,4 +80,4 @@ delete_by None u t = (deleted.NotFound, t)
 delete_by (Some e) u t = (deleted.Done, keep u (record e { withdrawn = true }) t)
 
 unfoldable pub delete_name : Uan → Names → Deleted × Names
-delete_name u t = delete_by (standing u t) u t
+delete_name u t = delete_by (standing_entry u t) u t

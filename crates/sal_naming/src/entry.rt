@@ -1,7 +1,7 @@
 //! What is kept of one name, and what the operations answer.
 
 ghost use Rattle.std.specs.Prelude.{◌≡◌, false};
-ghost use Rattle.sal_naming.specs.Table.{found, found_of, if_standing};
+ghost use Rattle.sal_naming.specs.Table.{place_and_moves, place_and_moves_of, if_standing};
 ghost use Rattle.sal_naming.specs.Changes.{update_entry, delete_entry};
 
 use sal_value::Ual;
@@ -61,7 +61,7 @@ impl Entry {
     }
 
     pub(crate) fn get(&self) -> Get<'_>
-        ensures { found result ≡ found_of (if_standing self.now) }
+        ensures { place_and_moves result ≡ place_and_moves_of (if_standing self.now) }
     {
         if self.withdrawn {
             return Get::NotFound;

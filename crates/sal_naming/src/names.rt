@@ -5,7 +5,7 @@ ghost use Rattle.std.specs.Option.{option_copied};
 ghost use Rattle.std.specs.FinMap as fm;
 ghost use Rattle.sal_value.specs.Order.{uan_key};
 ghost use Rattle.sal_value.specs.Table.{table_by};
-ghost use Rattle.sal_naming.specs.Table.{found, entry_of, put_name, get_name, update_name, delete_name};
+ghost use Rattle.sal_naming.specs.Table.{place_and_moves, entry_of, put_name, get_name, update_name, delete_name};
 
 use crate::entry::{Deleted, Entry, Get, Put, Updated};
 use sal_value::{NoMemory, Ual, Uan};
@@ -71,7 +71,7 @@ impl Names {
     /// Where the actor of the name is, unless the name was never given or is withdrawn.
     #[tactic(auto, unfolding(crate::specs::Table::get_name))]
     pub fn get(&self, name: &Uan) -> Get<'_>
-        ensures { found result ≡ get_name name.now self.now }
+        ensures { place_and_moves result ≡ get_name name.now self.now }
     {
         match self.entry(name) {
             Some(entry) => entry.get(),
