@@ -6,7 +6,7 @@ ghost use Rattle.sal_text.specs.Tokens.{Covers};
 ghost use Rattle.sal_text.specs.Refusals.{IsRefusal};
 ghost use Rattle.sal_text.specs.code.Scanned.{IsScanOf};
 
-use crate::piece::{Scan, scan};
+use crate::piece::{Scan, scan_front};
 use crate::token::{LexFault, LexRule, Token, Tokens};
 use sal_ast::LONGEST_PROGRAM;
 use sal_value::List;
@@ -19,7 +19,7 @@ fn part_at(source: &[u8], at: usize) -> Scan
     requires { at < length source.now }
     ensures { IsScanOf result (drop at source.now) }
 {
-    scan(&source[at..])
+    scan_front(&source[at..])
 }
 
 fn cut(alloc: Global, source: &[u8]) -> Result<List<Token>, LexFault>

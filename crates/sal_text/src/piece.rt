@@ -131,7 +131,7 @@ fn scan_other(text: &[u8]) -> Scan
 
 /// The part that the text begins with.
 #[tactic(auto, unfolding(crate::specs::code::Scanning::scan_from))]
-pub fn scan(text: &[u8]) -> Scan
+pub fn scan_front(text: &[u8]) -> Scan
     requires { 0 < length text.now }
     ensures { result ≡ scan_from (slice_index text.now 0) text.now }
 {
