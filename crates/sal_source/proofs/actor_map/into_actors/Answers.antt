@@ -7,7 +7,7 @@ use Rattle.sal_source.specs.Keys.{name_key, actor_key}
 use Rattle.sal_source.specs.code.Lists.{IsSorted}
 use Rattle.sal_source.specs.code.Maps.{actor_of}
 use Rattle.sal_source.proofs.Mapping.{sorted_is}
-use Rattle.sal_source.proofs.actor_map.listed.Goals as goal
+use Rattle.sal_source.proofs.actor_map.into_actors.Goals as goal
 
 pub returns-clause-sorted : goal.returns-clause-sorted
 returns-clause-sorted c =

@@ -5,7 +5,7 @@ use Rattle.sal_source.proofs.waiting.Waiting.open_all.Given as goal
 
 abbrev pub invariant-loop-join : goal.invariant-loop-join
 invariant-loop-join l = record {
-  same : put_joins l.owner l.more l.self.joins ≡ put_joins l.owner l.fn.joins l.fn.self.joins;
+  same : put_joins l.maker l.more l.self.joins ≡ put_joins l.maker l.fn.joins l.fn.self.joins;
   messages : l.self.messages ≡ l.fn.self.messages;
   gives : full_join_replies l.more ++ reverse l.left ≡ full_join_replies l.fn.joins ++ reverse l.fn.left;
 }
