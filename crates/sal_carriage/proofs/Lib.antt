@@ -1,0 +1,14 @@
+pub mod Agreeing
+pub mod Cells
+pub mod Crossing
+pub mod Cutting
+pub mod Due
+pub mod Honesty
+pub mod Marking
+pub mod Offering
+pub mod Offers
+pub mod Pushing
+pub mod Reading
+pub mod Steps
+pub mod Taking
+pub mod Views

@@ -1,0 +1,7 @@
+pub mod Exchange
+pub mod Fragments
+pub mod Frames
+pub mod Laws
+pub mod Link
+pub mod Offers
+pub mod Transit
