@@ -11,8 +11,8 @@ use Rattle.sal_source.proofs.waiting.Waiting.fill.Goals as goal
 pub returns-clause-waiting : goal.returns-clause-waiting
 returns-clause-waiting c =
     let k = made_key c.args.maker c.args.number in
-    let joins : put_join c.in-Some.maker c.fill_slot.new.self c.take.new.self ≡ write c.args.self.now.joins k (join_after_value c.args.at c.args.value (fm.get c.args.self.now.joins k)) =
-    ap (put_join c.in-Some.maker c.fill_slot.new.self) c.in-Some.ensures.rest
-    ∙ filled_again c.self.inside.joins k c.in-Some.maker c.args.at c.args.value c.in-Some.join c.fill_slot.new.self c.in-Some.ensures.taken c.in-Some.ensures.keyed c.fill_slot.ensures (sym c.is_full.ensures ∙ c.if-is_full.false)
+    let joins : put_join c.in-Some.maker c.fill.new.self c.take.new.self ≡ write c.args.self.now.joins k (join_after_value c.args.at c.args.value (fm.get c.args.self.now.joins k)) =
+    ap (put_join c.in-Some.maker c.fill.new.self) c.in-Some.ensures.rest
+    ∙ filled_again c.self.inside.joins k c.in-Some.maker c.args.at c.args.value c.in-Some.join c.fill.new.self c.in-Some.ensures.taken c.in-Some.ensures.keyed c.fill.ensures (sym c.is_full.ensures ∙ c.if-is_full.false)
     ∙ ap (λ (w : Waiting). write w.joins k (join_after_value c.args.at c.args.value (fm.get w.joins k))) c.self.view_is in
     c.in_ok-put_join.ensures ∙ (λ i. record { messages = (c.self.view_is i).messages; joins = joins i })
