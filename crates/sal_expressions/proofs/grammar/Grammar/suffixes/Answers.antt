@@ -1,0 +1,22 @@
+use Rattle.std.proofs.Common.{rules}
+use Rattle.sal_grammar.specs.Expressions.{suffix, suffixes}
+use Rattle.sal_grammar.specs.Statements.{below}
+use Rattle.sal_grammar.specs.Sets as is
+use Rattle.sal_expressions.proofs.Turns.{turn_ok, turn_stop, turn_none}
+use Rattle.sal_expressions.proofs.grammar.Grammar.suffixes.Goals as goal
+
+pub returns-then-not-sees : goal.returns-then-not-sees
+unfolding suffixes
+returns-then-not-sees g c =
+    turn_stop _ _ c.loop-turn._turn is.suffix (suffix c.args.self.now.depth (below c.args.self.now.depth)) c.loop-turn.found c.loop-turn.cursor c.loop-turn-test.true c.loop-turn.invariant (search rules)
+
+pub loop-turn-preserved : goal.loop-turn-preserved
+loop-turn-preserved g c =
+    let e = turn_ok _ _ c.loop-turn._turn is.suffix (suffix c.args.self.now.depth (below c.args.self.now.depth)) c.loop-turn.found c.loop-turn.cursor c.suffix.new.cursor c.in_ok-suffix.field-0
+    c.loop-turn-test.true c.loop-turn.invariant (search rules) c.in_ok-suffix.ensures in
+    rw c.in_ok-push.ensures.ok e
+
+pub returns : goal.returns
+unfolding suffixes
+returns g c =
+    turn_none _ _ c.loop-turn._turn is.suffix (suffix c.args.self.now.depth (below c.args.self.now.depth)) c.loop-turn.found c.loop-turn.cursor c.loop-turn-test.false c.loop-turn.invariant

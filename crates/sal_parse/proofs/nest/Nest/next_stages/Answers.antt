@@ -1,0 +1,22 @@
+use Rattle.std.proofs.Common.{rules}
+use Rattle.sal_expressions.proofs.Turns.{turn_ok, turn_stop, turn_none}
+use Rattle.sal_grammar.specs.Sets as is
+use Rattle.sal_parse.specs.code.Parts.{next_stage}
+use Rattle.sal_parse.specs.code.Parts.{next_stages}
+use Rattle.sal_parse.proofs.nest.Nest.next_stages.Goals as goal
+
+pub returns-then-not-sees : goal.returns-then-not-sees
+unfolding next_stages
+returns-then-not-sees g c =
+    turn_stop _ _ c.loop-turn._turn is.then_sign (next_stage c.args.self.now.depth) c.loop-turn.found c.loop-turn.cursor c.loop-turn-test.true c.loop-turn.invariant (search rules)
+
+pub loop-turn-preserved : goal.loop-turn-preserved
+loop-turn-preserved g c =
+    let e = turn_ok _ _ c.loop-turn._turn is.then_sign (next_stage c.args.self.now.depth) c.loop-turn.found c.loop-turn.cursor c.next_stage.new.cursor c.in_ok-next_stage.field-0
+    c.loop-turn-test.true c.loop-turn.invariant (search rules) c.in_ok-next_stage.ensures in
+    rw c.in_ok-push.ensures.ok e
+
+pub returns : goal.returns
+unfolding next_stages
+returns g c =
+    turn_none _ _ c.loop-turn._turn is.then_sign (next_stage c.args.self.now.depth) c.loop-turn.found c.loop-turn.cursor c.loop-turn-test.false c.loop-turn.invariant

@@ -1,0 +1,6 @@
+pub mod Ascii
+pub mod Digits
+pub mod Values
+pub mod Symbols
+pub mod Lexemes
+pub mod Open
