@@ -1,0 +1,4 @@
+pub mod Callees
+pub mod Indexes
+pub mod Judging
+pub mod Messaging

@@ -1,0 +1,10 @@
+pub mod Accepted
+pub mod Algebra
+pub mod EndingEquations
+pub mod Ends
+pub mod Known
+pub mod MemberChecks
+pub mod SignatureSteps
+pub mod Start
+pub mod StatementChecks
+pub mod StatementEquations

@@ -1,0 +1,9 @@
+use Rattle.std.proofs.Common.{◌≡◌, ◌≤◌, ◌+◌, length, drop}
+use Rattle.sal_types.specs.Members.{field_names}
+use Rattle.sal_types.proofs.members.field_count.Given as goal
+
+abbrev pub invariant-loop-member : goal.invariant-loop-member
+invariant-loop-member l = record {
+  few : l.count ≤ l.member-index;
+  all : l.count + length (field_names (drop l.member-index l.members)) ≡ length (field_names l.members);
+}
