@@ -1,0 +1,9 @@
+pub mod Again
+pub mod Delimited
+pub mod EnvelopesAgain
+pub mod EnvelopesFound
+pub mod Extending
+pub mod Found
+pub mod Fronts
+pub mod Parts
+pub mod ValuesExtend

@@ -1,0 +1,14 @@
+use Rattle.std.proofs.Common.{length, ap, ◌∙◌, arith}
+use Rattle.std.specs.List.{list_all}
+use Rattle.sal_value.specs.Spelling.{is_spelled}
+use Rattle.sal_envelope.proofs.Parts.{actor_parts}
+use Rattle.sal_envelope.proofs.writing.put_actor.Goals as goal
+
+pub put_values-requires-clause-few : goal.put_values-requires-clause-few
+put_values-requires-clause-few c =
+    let same = ap length c.as_slice.ensures in
+    let few = (actor_parts c.args.actor.now c.requires).few in
+    omega arith
+
+pub put_values-requires-clause-spelled : goal.put_values-requires-clause-spelled
+put_values-requires-clause-spelled c = ap (list_all is_spelled) c.as_slice.ensures ∙ (actor_parts c.args.actor.now c.requires).fields

@@ -1,0 +1,4 @@
+pub mod Spelling
+pub mod Decoding
+pub mod Coding
+pub mod code
