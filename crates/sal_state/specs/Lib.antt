@@ -1,0 +1,3 @@
+pub mod Supplies
+pub mod Contexts
+pub mod code
