@@ -1,0 +1,4 @@
+pub mod Firsts
+pub mod Tokens
+pub mod Places
+pub mod Books
