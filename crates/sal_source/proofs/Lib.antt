@@ -13,7 +13,6 @@ pub mod Mapping
 pub mod Never
 pub mod Once
 pub mod Played
-pub mod Runs
 pub mod Same
 pub mod Sorted
 pub mod Stepping

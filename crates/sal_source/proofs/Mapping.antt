@@ -1,5 +1,5 @@
 -- What an ordered map has, and what a change of it does to the table for which its entries stand.
-use Rattle.std.proofs.Common.{◌≡◌, Bool, true, false, cond, T, List, [], ◌∷◌, map, Option, Some, None, is_some, refl, sym, ap, subst, ◌∙◌, true≢false, Ordering, Less, Equal, Greater}
+use Rattle.std.proofs.Common.{◌≡◌, Bool, true, false, cond, T, List, [], ◌∷◌, map, Option, Some, None, refl, sym, ap, subst, ◌∙◌, true≢false, Ordering, Less, Equal, Greater}
 use Rattle.std.specs.List.{AllByRecursion}
 use Rattle.std.specs.Prelude.{IfSome}
 use Rattle.std.specs.Option.{option_map}
@@ -13,18 +13,6 @@ use Rattle.sal_source.specs.Table.{TableKey, key_cmp, key_eq, Table, table_of, w
 use Rattle.sal_source.specs.code.Lists.{first_at_key, IsSorted, AreDistinct}
 use Rattle.sal_source.proofs.Tables.{some_is, same_words, words_refl, same_table, get-write, get-table_of}
 use Rattle.sal_source.proofs.Sorted.{both, lt, apart_more}
-
-module _ {X : Type 0} where
-  -- what was at the key before is written again
-  pub written_back : (k : TableKey) (x : Option X) (t u : Table X) → u ≡ write t k x → write u k (fm.get t k) ≡ t
-  written_back k x t u new = ap (λ v. write v k (fm.get t k)) new ∙ same_table _ _ (λ q. get-write (write t k x) k (fm.get t k) q ∙ ap (cond (key_eq q k) (fm.get t k)) (get-write t k x q) ∙ at q (key_eq q k) refl)
-    where
-      at : (q : TableKey) (b : Bool) → key_eq q k ≡ b → cond b (fm.get t k) (cond b x (fm.get t q)) ≡ fm.get t q
-      at q true e = ap (fm.get t) (sym (same_words q k e))
-      at q false e = refl
-
-  pub written_there : (k : TableKey) (x : X) (t u : Table X) → u ≡ write t k (Some x) → fm.contains_key u k ≡ true
-  written_there k x t u new = ap (λ v. fm.contains_key v k) new ∙ ap is_some (get-write t k (Some x) k) ∙ ap (λ b. is_some (cond b (Some x) (fm.get t k))) (words_refl k)
 
 -- Entries (k, v) that stand for the items `item (k, v)`, by keys of which those of the items are made.
 module _ {K V X : Type 0} (words : K → TableKey) (key : X → TableKey) (item : K × V → X) (keyed : (e : K × V) → key (item e) ≡ words e.0) where
@@ -170,30 +158,3 @@ module _ {K V X : Type 0} (words : K → TableKey) (key : X → TableKey) (item 
   unfolding IsStrictlySortedBy
   distinct_is [] h = tt
   distinct_is (e ∷ more) h = (ap (λ k. at_key k more) (keyed e) ∙ none_below e.0 more h.0, distinct_is more h.1)
-
-  -- ---- entries are put one after another
-
-  abbrev pub put_all : List (K × V) → Table X → Table X
-  put_all [] t = t
-  put_all (e ∷ more) t = put_all more (write t (words e.0) (Some (item e)))
-
-  get_all : (more : List (K × V)) (t : Table X) (q : TableKey) → IsStrictlySortedBy order (keys_of more) → fm.get (put_all more t) q ≡ cond (is_some (at_key q more)) (at_key q more) (fm.get t q)
-  unfolding IsStrictlySortedBy
-  get_all [] t q h = refl
-  get_all (e ∷ more) t q h =
-      get_all more (write t (words e.0) (Some (item e))) q h.1
-      ∙ ap (cond (is_some (at_key q more)) (at_key q more)) (get-write t (words e.0) (Some (item e)) q)
-      ∙ at (key_eq q (words e.0)) refl (at_key q more) refl
-      ∙ ap (λ o. cond (is_some o) o (fm.get t q)) (sym (at_first q e more))
-    where
-      at : (b : Bool) → key_eq q (words e.0) ≡ b → (o : Option X) → at_key q more ≡ o → cond (is_some o) o (cond b (Some (item e)) (fm.get t q)) ≡ cond (is_some (cond b (Some (item e)) o)) (cond b (Some (item e)) o) (fm.get t q)
-      at true is None f = refl
-      at true is (Some x) f = absurd (let g : Some x ≡ None = sym f ∙ ap (λ k. at_key k more) (same_words q (words e.0) is) ∙ none_below e.0 more h.0 in cc)
-      at false is o f = refl
-
-  pub all_put : (more : List (K × V)) → IsStrictlySortedBy order (keys_of more) → put_all more fm.empty ≡ in_table more
-  all_put more h = same_table _ _ (λ q. get_all more fm.empty q h ∙ ap (cond (is_some (at_key q more)) (at_key q more)) (fm.get-empty {X = X} key_cmp q) ∙ at (at_key q more) ∙ sym (get_in more q))
-    where
-      at : (o : Option X) → cond (is_some o) o None ≡ o
-      at None = refl
-      at (Some x) = refl

@@ -1,5 +1,5 @@
 -- Steps one after another.
-use Rattle.std.proofs.Common.{◌≡◌, ℕ, zero, suc, ◌+◌, Bool, true, false, List, [], ◌∷◌, take, Option, Some, None, Ok, refl, ap, ◌∙◌, add-one}
+use Rattle.std.proofs.Common.{◌≡◌, ℕ, zero, suc, ◌+◌, Bool, true, false, List, [], ◌∷◌, take, Option, Some, None, refl, ap, ◌∙◌, add-one}
 use Rattle.std.specs.Prelude.{slice_get, option_and_then}
 use Rattle.sal_mail.specs.declared.message.Message.{Message}
 use Rattle.sal_mail.specs.Message.{is_ready}
@@ -9,7 +9,7 @@ use Rattle.sal_source.specs.declared.state.Step.{Step}
 use Rattle.sal_source.specs.Configuration.{Configuration}
 use Rattle.sal_source.specs.Step.{step, if_ready}
 use Rattle.sal_source.specs.Run.{steps}
-use Rattle.sal_source.specs.code.Changes.{Takes}
+use Rattle.sal_source.specs.code.Changes.{TakesStep}
 
 pub ready : (o : Option Message) (m : Message) (f : Message → Option Configuration) → o ≡ Some m → is_ready m ≡ true → if_ready o f ≡ f m
 ready o m f e r = rw (e, r) refl
@@ -49,10 +49,10 @@ module _ (p : Meaning) (setup : Setup) where
       next None more e = refl
       next (Some d) more e = more d e
 
-pub took_no : (o : Option Configuration) (b : Bool) (old new : Configuration) → Takes o old (Ok b) new → b ≡ false → o ≡ None
+pub took_no : (o : Option Configuration) (b : Bool) (old new : Configuration) → TakesStep o old (new, b) → b ≡ false → o ≡ None
 took_no o true old new d e = absurd (cc)
 took_no o false old new d e = d.0
 
-pub took_yes : (o : Option Configuration) (b : Bool) (old new : Configuration) → Takes o old (Ok b) new → b ≡ true → o ≡ Some new
+pub took_yes : (o : Option Configuration) (b : Bool) (old new : Configuration) → TakesStep o old (new, b) → b ≡ true → o ≡ Some new
 took_yes o true old new d e = d
 took_yes o false old new d e = absurd (cc)

@@ -1,13 +1,11 @@
 -- What a table has after a change, and the list that stands for it.
-use Rattle.std.proofs.Common.{◌≡◌, ◌≢◌, ◌⊎◌, inl, inr, ℕ, zero, suc, ◌+◌, ◌<◌, Bool, true, false, cond, ◌&&◌, T, List, [], ◌∷◌, ◌++◌, map, take, length, is_some, Option, Some, None, refl, sym, ap, subst, ◌∙◌, arith, true≢false, get_or}
+use Rattle.std.proofs.Common.{◌≡◌, inl, inr, ℕ, zero, suc, ◌+◌, ◌<◌, Bool, true, false, cond, T, List, [], ◌∷◌, ◌++◌, map, take, length, is_some, Option, Some, None, refl, sym, ap, subst, ◌∙◌, arith, true≢false, get_or}
 use Rattle.std.specs.Prelude.{slice_get, slice_set, remove}
 use Rattle.std.specs.Option.{option_map}
-use Rattle.std.specs.Ordering.{is_eq, is_lt}
-use Rattle.std.specs.Cmp.{Equal-is, tied_itself}
 use Rattle.std.proofs.lemmas.Cmp.{nat_list_cmp_total}
 use Rattle.std.specs.FinMap as fm
 use Rattle.std.specs.FinMap.Entries as es
-use Rattle.sal_source.specs.Table.{TableKey, key_cmp, key_eq, Table, write, table_map, table_of}
+use Rattle.sal_source.specs.Table.{TableKey, key_cmp, key_eq, write, table_map, table_of}
 use Rattle.sal_source.specs.code.Lists.{first_at_key, IsFirst, Finds, AreDistinct}
 pub use Rattle.sal_value.proofs.Tables.{some_is, words_anti, same_words, words_refl, words_tells, words_apart, same_table, get-write, entries-map, get-map}
 

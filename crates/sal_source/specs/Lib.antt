@@ -6,6 +6,6 @@ pub mod Posts
 pub mod Step
 pub mod code
 pub mod Run
+pub mod Runners
 pub mod Laws
 pub mod Once
-pub mod Prints

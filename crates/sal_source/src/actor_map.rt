@@ -6,7 +6,7 @@ ghost use Rattle.std.specs.FinMap as fm;
 ghost use Rattle.sal_source.specs.Table.{write};
 ghost use Rattle.sal_source.specs.Keys.{name_key, actor_key};
 ghost use Rattle.sal_source.specs.code.Lists.{IsSorted};
-ghost use Rattle.sal_source.specs.code.Maps.{actor_of, actors_in, put_back};
+ghost use Rattle.sal_source.specs.code.Maps.{actor_of, actors_in};
 ghost use Rattle.sal_source.specs.Step.{put_actors};
 
 use crate::actors::Actors;
@@ -60,56 +60,28 @@ fn parts(actor: Actor, serial: u64) -> (Name, ActorState)
 
 type States = BTreeMap<Name, ActorState>;
 
-/// Puts the state at the name, and answers the one that was there. Only a new name takes memory.
-fn put(states: &mut States, name: Name, state: ActorState) -> Result<Option<ActorState>, NoMemory>
-    ensures old { IfOk result (λ old. put_back name old (actors_in states.new.entries) ≡ actors_in states.old.entries) }
-    ensures there { IfOk result (λ old. fm.contains_key (actors_in states.new.entries) (name_key name) ≡ true) }
+/// Puts the state at the name. Only a new name takes memory.
+fn put(states: &mut States, name: Name, state: ActorState) -> Result<(), NoMemory>
     ensures ok { OnOk result (actors_in states.new.entries ≡ write (actors_in states.old.entries) (name_key name) (Some (actor_of (name, state)))) }
-    ensures err { OnErr result (actors_in states.new.entries ≡ actors_in states.old.entries) }
     ensures absent { OnErr result (fm.get (actors_in states.old.entries) (name_key name) ≡ None) }
 {
     keys_are_injective();
     match states.insert(name, state) {
-        Ok(old) => Ok(old),
+        Ok(_) => Ok(()),
         Err(_) => Err(NoMemory),
     }
 }
 
-/// Takes the name's state away, or puts this one back.
-fn restore(states: &mut States, name: Name, old: Option<ActorState>)
-    requires { fm.contains_key (actors_in states.old.entries) (name_key name) ≡ true }
-    ensures { actors_in states.new.entries ≡ put_back name old (actors_in states.old.entries) }
-{
-    match old {
-        Some(state) => {
-            // The name is there, so this takes no memory and can't fail.
-            let _ = put(states, name, state);
-        }
-        None => {
-            states.remove(&name);
-        }
-    }
-}
-
-/// Adds the actors, from the last one on, each with next number 0. When out of memory none is added.
-fn add_all(states: &mut States, alloc: Global, more: List<Actor>) -> Result<(), NoMemory>
-    ensures ok { OnOk result (actors_in states.new.entries ≡ put_actors more (actors_in states.old.entries)) }
-    ensures err { OnErr result (actors_in states.new.entries ≡ actors_in states.old.entries) }
+/// Adds the actors, from the last one on, each with next number 0.
+fn add_all(states: &mut States, more: List<Actor>) -> Result<(), NoMemory>
+    ensures { OnOk result (actors_in states.new.entries ≡ put_actors more (actors_in states.old.entries)) }
 {
     let mut left = more;
-    let Some(actor) = left.pop() else {
-        return Ok(());
-    };
-    let (name, state) = parts(actor, 0);
-    let again = name.clone_in(alloc)?;
-    let old = put(states, name, state)?;
-    match add_all(states, alloc, left) {
-        Ok(()) => Ok(()),
-        Err(e) => {
-            restore(states, again, old);
-            Err(e)
-        }
+    while let Some(actor) = left.pop() {
+        let (name, state) = parts(actor, 0);
+        put(states, name, state)?;
     }
+    Ok(())
 }
 
 /// The actors in a list in the order of their names.
@@ -166,12 +138,11 @@ impl ActorMap {
         self.get(name).is_some()
     }
 
-    /// Adds the actors, each with next number 0. When out of memory none is added.
-    pub fn add_all(&mut self, alloc: Global, more: List<Actor>) -> Result<(), NoMemory>
-        ensures ok { OnOk result (self.new ≡ put_actors more self.old) }
-        ensures err { OnErr result (self.new ≡ self.old) }
+    /// Adds the actors, each with next number 0.
+    pub fn add_all(&mut self, more: List<Actor>) -> Result<(), NoMemory>
+        ensures { OnOk result (self.new ≡ put_actors more self.old) }
     {
-        add_all(&mut self.states, alloc, more)
+        add_all(&mut self.states, more)
     }
 
     /// Puts the actor in the place of the one of its name.

@@ -1,6 +1,6 @@
 //! Pending creations, with their makers.
 
-ghost use Rattle.std.specs.Prelude.{◌≡◌, Some, None, IfOk, OnOk};
+ghost use Rattle.std.specs.Prelude.{◌≡◌, Some, None, OnOk};
 ghost use Rattle.std.specs.Option.{option_copied};
 ghost use Rattle.std.specs.FinMap as fm;
 ghost use Rattle.sal_source.specs.Table.{write};
@@ -65,13 +65,6 @@ impl Creations {
         Creations {
             items: List::new(alloc),
         }
-    }
-
-    pub fn copied(&self, alloc: Global) -> Result<Creations, NoMemory>
-        ensures { IfOk result (λ copy. copy ≡ self.now) }
-    {
-        let items = self.items.clone_in(alloc)?;
-        Ok(Creations { items })
     }
 
     pub fn count(&self) -> usize

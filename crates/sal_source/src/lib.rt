@@ -14,21 +14,18 @@ mod player;
 mod posts;
 mod printing;
 mod run;
+mod runner;
 mod services;
 mod state;
 #[cfg(test)]
 mod tests;
-mod trace;
 mod waiting;
 
 pub use actor_map::ActorState;
 pub use config::Config;
-pub use law::{
-    chains_of_prints_run, joins_resolve_once, messages_are_taken_once, replies_commute,
-    steps_answer_once,
-};
+pub use law::{joins_resolve_once, messages_are_taken_once, replies_commute, steps_answer_once};
 pub use player::play;
 pub use run::{Receiver, Run};
+pub use runner::Runner;
 pub use sal_handler::{Began, Outcome, Turn};
 pub use state::{PlayFault, Setup, Step};
-pub use trace::trace_of;

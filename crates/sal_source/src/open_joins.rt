@@ -1,6 +1,6 @@
 //! The open joins, found by their numbers and makers.
 
-ghost use Rattle.std.specs.Prelude.{◌≡◌, Some, None, IfSome, IfOk, OnOk};
+ghost use Rattle.std.specs.Prelude.{◌≡◌, Some, None, IfSome, OnOk};
 ghost use Rattle.std.specs.FinMap as fm;
 ghost use Rattle.sal_source.specs.Table.{write};
 ghost use Rattle.sal_source.specs.Keys.{made_key, join_key};
@@ -8,7 +8,7 @@ ghost use Rattle.sal_source.specs.code.Maps.{join_of, join_entry_key, joins_in};
 ghost use Rattle.sal_source.specs.Step.{put_join};
 
 use sal_mail::{Join, Reply};
-use sal_value::{CloneIn, List, Name, NoMemory, Value, keys_are_injective};
+use sal_value::{List, Name, NoMemory, Value, keys_are_injective};
 use std::alloc::Global;
 use std::collections::BTreeMap;
 use std::marker::Model;
@@ -67,27 +67,6 @@ fn count(joins: &Joins) -> usize
     joins.len()
 }
 
-fn copied(joins: &Joins, alloc: Global) -> Result<Joins, NoMemory>
-    ensures { IfOk result (λ copy. joins_in copy.entries ≡ joins_in joins.now.entries) }
-{
-    let mut copies = BTreeMap::new(alloc);
-    for (key, rest) in joins.iter() {
-        let key = (key.0, key.1.clone_in(alloc)?);
-        insert(&mut copies, key, copied_rest(alloc, rest)?)?;
-    }
-    Ok(copies)
-}
-
-fn copied_rest(alloc: Global, rest: &OpenJoin) -> Result<OpenJoin, NoMemory>
-    ensures { IfOk result (λ copy. copy ≡ rest.now) }
-{
-    Ok(OpenJoin {
-        places: rest.places.clone_in(alloc)?,
-        void: rest.void,
-        reply: rest.reply.clone_in(alloc)?,
-    })
-}
-
 /// The open joins with their makers.
 #[derive(Drop)]
 pub struct OpenJoins {
@@ -115,13 +94,6 @@ impl OpenJoins {
         OpenJoins {
             joins: BTreeMap::new(alloc),
         }
-    }
-
-    pub fn copied(&self, alloc: Global) -> Result<OpenJoins, NoMemory>
-        ensures { IfOk result (λ copy. copy ≡ self.now) }
-    {
-        let joins = copied(&self.joins, alloc)?;
-        Ok(OpenJoins { joins })
     }
 
     pub fn len(&self) -> usize

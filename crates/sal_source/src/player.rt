@@ -3,33 +3,33 @@
 ghost use Rattle.std.specs.Prelude.{◌≡◌, IfOk};
 ghost use Rattle.sal_handler.specs.Handler.{handle};
 ghost use Rattle.sal_handler.specs.Fits.{meaning_of};
-ghost use Rattle.sal_handler.specs.Prints.{IsChainOfPrints};
 ghost use Rattle.sal_source.specs.Configuration as configuration;
 ghost use Rattle.sal_source.specs.Step as spec;
 ghost use Rattle.sal_source.specs.Run.{Plays};
 ghost use Rattle.sal_source.specs.code.Maps.{actor_of};
-ghost use Rattle.sal_source.specs.code.Changes.{Takes};
+ghost use Rattle.sal_source.specs.code.Changes.{TakesStep};
 
 use crate::actor_map::ActorState;
 use crate::config::Config;
 use crate::run::{Receiver, Run};
 use crate::state::{PlayFault, Setup, Step};
 use sal_ast::Program;
-use sal_handler::{Outcome, Turn, begin_prints, fits_prints, handle_prints};
+use sal_handler::{Outcome, Turn};
 use sal_mail::Message;
+use sal_types::Typed;
 use sal_value::{Name, NoMemory, Values};
+use sal_walk::{ListedNames, begin, fits_call, handle_with};
 use std::alloc::Global;
 
 /// The run of no step.
 fn first(alloc: Global, program: &Program, setup: &Setup) -> Result<Run, NoMemory>
-    requires form { IsChainOfPrints program.now }
     ensures { IfOk result (λ c. c ≡ configuration.first_configuration (meaning_of program.now) setup.now) }
 {
     let words = setup.words.clone_in(alloc)?;
-    Run::start(alloc, begin_prints(alloc, program), words)
+    Run::start(alloc, begin(alloc, program)?, words)
 }
 
-/// The outcome for these arguments. No handler of such a program makes an actor, so no name is needed.
+/// The outcome for these arguments, where new actors take these names.
 fn outcome_for(
     alloc: Global,
     program: &Program,
@@ -39,7 +39,6 @@ fn outcome_for(
     fresh: &[Name],
     args: &Values,
 ) -> Result<Outcome, NoMemory>
-    requires form { IsChainOfPrints program.now }
     ensures { IfOk result (λ it. it ≡ handle program.now (record (spec.call_of message.now (actor_of (name.now, state.now)) fresh.now) { args = args.now })) }
 {
     let turn = Turn {
@@ -53,7 +52,7 @@ fn outcome_for(
         place: 0,
         fresh: 0,
     };
-    handle_prints(alloc, program, &turn)
+    handle_with(alloc, program, &turn, &ListedNames { names: fresh })
 }
 
 fn outcome_at(
@@ -64,7 +63,6 @@ fn outcome_at(
     state: &ActorState,
     fresh: &[Name],
 ) -> Result<Outcome, NoMemory>
-    requires form { IsChainOfPrints program.now }
     ensures { IfOk result (λ it. it ≡ handle program.now (spec.call_of message.now (actor_of (name.now, state.now)) fresh.now)) }
 {
     let args = message.known_values(alloc)?;
@@ -74,16 +72,15 @@ fn outcome_at(
 fn handle_step(
     alloc: Global,
     program: &Program,
-    run: &mut Run,
+    run: Run,
     maker: &Name,
     serial: u64,
     fresh: &[Name],
-) -> Result<bool, NoMemory>
-    requires form { IsChainOfPrints program.now }
-    ensures { Takes (spec.handle_step (meaning_of program.now).outcome maker.now serial fresh.now run.old) run.old result run.new }
+) -> Result<(Run, bool), NoMemory>
+    ensures { IfOk result (λ it. TakesStep (spec.handle_step (meaning_of program.now).outcome maker.now serial fresh.now run) run it) }
 {
     match run.receiver(maker, serial) {
-        Receiver::Nobody => Ok(false),
+        Receiver::Nobody => Ok((run, false)),
         Receiver::NoHandler => run.no_handler(alloc, maker, serial, fresh),
         Receiver::Handler(message, name, state) => {
             let outcome = outcome_at(alloc, program, message, name, state, fresh)?;
@@ -92,17 +89,16 @@ fn handle_step(
     }
 }
 
-/// Whether the step was possible, and was taken.
+/// The run after the step, and whether the step was possible.
 #[tactic(auto, unfolding(crate::specs::Step::step))]
 fn step(
     alloc: Global,
     program: &Program,
     setup: &Setup,
-    run: &mut Run,
+    run: Run,
     step: &Step,
-) -> Result<bool, NoMemory>
-    requires form { IsChainOfPrints program.now }
-    ensures { Takes (spec.step (meaning_of program.now) setup.now run.old step.now) run.old result run.new }
+) -> Result<(Run, bool), NoMemory>
+    ensures { IfOk result (λ it. TakesStep (spec.step (meaning_of program.now) setup.now run step.now) run it) }
 {
     match step {
         Step::Handle {
@@ -123,29 +119,41 @@ fn step(
             args,
         } => {
             let args = args.as_slice();
-            let fits = fits_prints(program, *behavior, *handler, args);
+            let fits = fits_call(program, *behavior, *handler, args);
             run.post(alloc, fits, *number, target, *behavior, *handler, args)
         }
     }
 }
 
-/// Plays the steps from the program's first configuration. The refusal is the first step that
-/// isn't possible, numbered from 0. Programs that are one chain of prints can be played so far.
-pub fn play(
+fn play_tree(
     alloc: Global,
     program: &Program,
     setup: &Setup,
     steps: &[Step],
 ) -> Result<Config, PlayFault>
-    requires form { IsChainOfPrints program.now }
     ensures { Plays program.now setup.now steps.now result }
 {
     let mut run = first(alloc, program, setup)?;
     for (i, one) in steps.iter().enumerate() {
-        if !step(alloc, program, setup, &mut run, one)? {
+        let (next, taken) = step(alloc, program, setup, run, one)?;
+        if !taken {
             return Err(PlayFault::BadStep(i));
         }
+        run = next;
     }
     let authorities = setup.authorities.clone_in(alloc)?;
     Ok(run.config(alloc, authorities)?)
+}
+
+/// Plays the steps from the program's first configuration. The refusal is the first step that
+/// isn't possible, numbered from 0.
+pub fn play(
+    alloc: Global,
+    program: &Typed,
+    setup: &Setup,
+    steps: &[Step],
+) -> Result<Config, PlayFault>
+    ensures { Plays program.now setup.now steps.now result }
+{
+    play_tree(alloc, program.program(), setup, steps)
 }

@@ -1,17 +1,18 @@
 //! Runs, step by step.
 
-ghost use Rattle.std.specs.Prelude.{◌≡◌, [], true, IfOk, IfSome, OnOk, OnErr};
+ghost use Rattle.std.specs.Prelude.{◌≡◌, [], true, IfOk, OnOk};
 ghost use Rattle.std.specs.FinMap as fm;
 ghost use Rattle.sal_source.specs.Table.{keys_of};
-ghost use Rattle.sal_source.specs.Keys.{actor_key};
+ghost use Rattle.sal_source.specs.Keys.{name_key};
 ghost use Rattle.sal_source.specs.Configuration.{first_by, act_message};
 ghost use Rattle.sal_source.specs.Give.{give};
 ghost use Rattle.sal_source.specs.Step as spec;
-ghost use Rattle.sal_source.specs.code.Changes.{Takes};
+ghost use Rattle.sal_source.specs.code.Changes.{TakesStep};
 ghost use Rattle.sal_handler.specs.declared.turn.Began.TheVariants as began;
 ghost use Rattle.sal_handler.specs.declared.turn.Outcome.TheVariants.{Done};
+ghost use Rattle.sal_value.specs.declared.value.Value.TheVariants.{Null};
 ghost use Rattle.sal_source.specs.code.Maps.{actor_of};
-ghost use Rattle.sal_source.specs.code.Handling.{IsReceiver, IsChange, MakesChange, AfterOutcome, Enters, with_change, with_text_and_answers, after_print, after_bind, is_output};
+ghost use Rattle.sal_source.specs.code.Handling.{IsReceiver, TakesCall, AfterOutcome, Enters, with_handler_effects, after_bind, is_output, can_print};
 
 use crate::actor_map::{ActorMap, ActorState};
 use crate::config::Config;
@@ -73,14 +74,12 @@ pub enum Receiver<'a> {
     Handler(&'a Message, &'a Name, &'a ActorState),
 }
 
-/// What the handler of an actor makes of a configuration.
+/// Whose handler runs for a message, of which behaviour it is, and the message's reply.
 #[derive(Drop)]
-pub struct Change {
-    actor: (Actor, u64),
-    actors: List<Actor>,
-    creations: Creations,
-    waiting: Waiting,
-    answers: List<(u64, Value)>,
+pub struct Called {
+    me: Name,
+    behavior: u16,
+    reply: Reply,
 }
 
 fn act_message(
@@ -104,28 +103,6 @@ fn act_message(
         delay: 0,
         reply: Reply::Nobody,
     })
-}
-
-/// The actor with other fields and another next number.
-fn actor_with(
-    alloc: Global,
-    name: &Name,
-    state: &ActorState,
-    fields: Values,
-    serial: u64,
-) -> Result<(Actor, u64), NoMemory>
-    ensures { IfOk result (λ it. it ≡ (record (actor_of (name.now, state.now)).0 { fields = fields }, serial)) }
-{
-    let name = name.clone_in(alloc)?;
-    let behavior = state.behavior;
-    Ok((
-        Actor {
-            name,
-            behavior,
-            fields,
-        },
-        serial,
-    ))
 }
 
 fn is_migrate(message: &Message) -> bool
@@ -182,39 +159,6 @@ fn target_and_reply(message: Message) -> (Target, Reply)
     (target, reply)
 }
 
-/// What the handler of this actor makes of the creations and of what waits.
-fn change_of_effects(
-    alloc: Global,
-    me: &Name,
-    state: &ActorState,
-    reply: Reply,
-    creations: &Creations,
-    waiting: Waiting,
-    effects: Effects,
-) -> Result<Change, NoMemory>
-    ensures { IfOk result (λ change. IsChange effects reply (actor_of (me.now, state.now)) creations.now waiting change) }
-{
-    let mut waiting = waiting;
-    let answers = settle_effects(
-        alloc,
-        &mut waiting,
-        me,
-        effects.messages,
-        effects.joins,
-        effects.answer,
-        reply,
-    )?;
-    let mut creations = creations.copied(alloc)?;
-    creations.put_all(alloc, me, effects.creations)?;
-    Ok(Change {
-        actor: actor_with(alloc, me, state, effects.fields, effects.serial)?,
-        actors: effects.actors,
-        creations,
-        waiting,
-        answers,
-    })
-}
-
 fn is_output(target: &Target) -> bool
     ensures { result ≡ is_output target.now }
 {
@@ -252,7 +196,7 @@ fn start_with_actor(
         fields,
     })?;
     let mut actors = ActorMap::new(alloc);
-    actors.add_all(alloc, more)?;
+    actors.add_all(more)?;
     let mut waiting = Waiting::new(alloc);
     waiting.put_message(message)?;
     Ok(Run {
@@ -358,7 +302,7 @@ impl Run {
         fresh: &[Name],
         kind: FaultKind,
     ) -> Result<bool, NoMemory>
-        ensures { Takes (spec.if_no_names fresh.now (spec.add_fault kind maker.now serial (spec.drop_message maker.now serial self.old))) self.old result self.new }
+        ensures { IfOk result (λ taken. TakesStep (spec.if_no_names fresh.now (spec.add_fault kind maker.now serial (spec.drop_message maker.now serial self.old))) self.old (self.new, taken)) }
     {
         match fresh {
             [_, ..] => Ok(false),
@@ -376,30 +320,30 @@ impl Run {
     }
 
     /// The step of a message of which `receiver` says that its actor doesn't understand it.
-    pub(crate) fn no_handler(
-        &mut self,
+    pub fn no_handler(
+        self,
         alloc: Global,
         maker: &Name,
         serial: u64,
         fresh: &[Name],
-    ) -> Result<bool, NoMemory>
-        ensures { Takes (spec.fault_no_handler maker.now serial fresh.now self.old) self.old result self.new }
+    ) -> Result<(Run, bool), NoMemory>
+        ensures { IfOk result (λ it. TakesStep (spec.fault_no_handler maker.now serial fresh.now self) self it) }
     {
-        self.fail(alloc, maker, serial, fresh, FaultKind::NoHandler)
+        let mut run = self;
+        let taken = run.fail(alloc, maker, serial, fresh, FaultKind::NoHandler)?;
+        Ok((run, taken))
     }
 
-    fn change_of_message(
-        &self,
+    /// Takes the message out, where an actor is called by it.
+    fn take_call(
+        &mut self,
         alloc: Global,
         maker: &Name,
         serial: u64,
-        effects: Effects,
-    ) -> Result<Option<Change>, NoMemory>
-        ensures makes { IfOk result (λ it. MakesChange maker.now serial effects self.now it) }
-        ensures there { IfOk result (λ it. IfSome it (λ change. fm.contains_key self.now.actors (actor_key change.actor) ≡ true)) }
+    ) -> Result<Option<Called>, NoMemory>
+        ensures { IfOk result (λ it. TakesCall maker.now serial self.old it self.new) }
     {
-        let mut waiting = self.waiting.copied(alloc)?;
-        let Some(message) = waiting.take(maker, serial) else {
+        let Some(message) = self.waiting.take(maker, serial) else {
             return Ok(None);
         };
         let (target, reply) = target_and_reply(message);
@@ -409,31 +353,53 @@ impl Run {
         let Some((me, state)) = self.actors.get(&name) else {
             return Ok(None);
         };
-        let change = change_of_effects(alloc, me, state, reply, &self.creations, waiting, effects)?;
-        Ok(Some(change))
+        let me = me.clone_in(alloc)?;
+        let behavior = state.behavior;
+        Ok(Some(Called {
+            me,
+            behavior,
+            reply,
+        }))
     }
 
-    fn commit(&mut self, alloc: Global, change: Change) -> Result<(), NoMemory>
-        requires { fm.contains_key self.old.actors (actor_key change.actor) ≡ true }
-        ensures ok { OnOk result (self.new ≡ with_change change self.old) }
-        ensures err { OnErr result (self.new ≡ self.old) }
+    /// What the handler of this actor made is there, and its replies are given.
+    fn enter(&mut self, alloc: Global, called: Called, effects: Effects) -> Result<(), NoMemory>
+        requires { fm.contains_key self.old.actors (name_key called.me) ≡ true }
+        ensures { OnOk result (self.new ≡ with_handler_effects effects called self.old) }
     {
-        let Change {
-            actor,
+        let Called {
+            me,
+            behavior,
+            reply,
+        } = called;
+        let Effects {
+            fields,
+            answer,
+            messages,
+            joins,
             actors,
             creations,
-            waiting,
-            answers,
-        } = change;
-        let told = self.answers.len();
+            serial,
+            fresh: _,
+        } = effects;
+        let answers = settle_effects(
+            alloc,
+            &mut self.waiting,
+            &me,
+            messages,
+            joins,
+            answer,
+            reply,
+        )?;
         self.answers.append(answers)?;
-        if let Err(e) = self.actors.add_all(alloc, actors) {
-            self.answers.truncate(told);
-            return Err(e);
-        }
-        self.actors.set(actor);
-        self.creations = creations;
-        self.waiting = waiting;
+        self.creations.put_all(alloc, &me, creations)?;
+        self.actors.add_all(actors)?;
+        let actor = Actor {
+            name: me,
+            behavior,
+            fields,
+        };
+        self.actors.set((actor, serial));
         Ok(())
     }
 
@@ -456,9 +422,9 @@ impl Run {
         if !self.fits(fresh, &effects) {
             return Ok(false);
         }
-        match self.change_of_message(alloc, maker, serial, effects)? {
-            Some(change) => {
-                self.commit(alloc, change)?;
+        match self.take_call(alloc, maker, serial)? {
+            Some(called) => {
+                self.enter(alloc, called, effects)?;
                 Ok(true)
             }
             None => Ok(false),
@@ -481,9 +447,7 @@ impl Run {
         }
     }
 
-    /// The step of a message whose handler has this outcome, with these names for new actors. False
-    /// where the step isn't possible.
-    pub fn apply_outcome(
+    fn handle(
         &mut self,
         alloc: Global,
         maker: &Name,
@@ -491,81 +455,93 @@ impl Run {
         fresh: &[Name],
         outcome: Outcome,
     ) -> Result<bool, NoMemory>
-        ensures { Takes (spec.handle_step (λ _. outcome) maker.now serial fresh.now self.old) self.old result self.new }
+        ensures { IfOk result (λ taken. TakesStep (spec.handle_step (λ _. outcome) maker.now serial fresh.now self.old) self.old (self.new, taken)) }
     {
         match self.receiver(maker, serial) {
             Receiver::Nobody => Ok(false),
-            Receiver::NoHandler => self.no_handler(alloc, maker, serial, fresh),
+            Receiver::NoHandler => self.fail(alloc, maker, serial, fresh, FaultKind::NoHandler),
             Receiver::Handler(..) => self.after(alloc, maker, serial, fresh, outcome),
         }
     }
 
-    fn tell(
-        &mut self,
-        text: Text,
-        waiting: Waiting,
-        answers: List<(u64, Value)>,
-    ) -> Result<(), NoMemory>
-        ensures ok { OnOk result (self.new ≡ with_text_and_answers text waiting answers self.old) }
-        ensures err { OnErr result (self.new ≡ self.old) }
-    {
-        let told = self.output.len();
-        self.output.push(text)?;
-        if let Err(e) = self.answers.append(answers) {
-            self.output.truncate(told);
-            return Err(e);
-        }
-        self.waiting = waiting;
-        Ok(())
-    }
-
-    fn print_out(
-        &mut self,
+    /// The step of a message whose handler has this outcome, with these names for new actors. False
+    /// where the step isn't possible.
+    pub fn apply_outcome(
+        self,
         alloc: Global,
-        waiting: Waiting,
-        message: Message,
-    ) -> Result<(), NoMemory>
-        ensures ok { OnOk result (self.new ≡ after_print message waiting self.old) }
-        ensures err { OnErr result (self.new ≡ self.old) }
+        maker: &Name,
+        serial: u64,
+        fresh: &[Name],
+        outcome: Outcome,
+    ) -> Result<(Run, bool), NoMemory>
+        ensures { IfOk result (λ it. TakesStep (spec.handle_step (λ _. outcome) maker.now serial fresh.now self) self it) }
     {
-        let text = printing::message_text(alloc, &message)?;
-        let (_, reply) = target_and_reply(message);
-        let mut left = List::new(alloc);
-        left.push((reply, Value::Null))?;
-        let mut waiting = waiting;
-        let mut answers = List::new(alloc);
-        waiting.settle(alloc, &mut answers, left)?;
-        self.tell(text, waiting, answers)
+        let mut run = self;
+        let taken = run.handle(alloc, maker, serial, fresh, outcome)?;
+        Ok((run, taken))
     }
 
-    /// A reply is given to whom it is owed, and then what it fills or completes.
-    pub fn give(&mut self, alloc: Global, reply: Reply, value: Value) -> Result<(), NoMemory>
-        ensures ok { OnOk result (self.new ≡ give reply value self.old) }
-        ensures err { OnErr result (self.new ≡ self.old) }
+    fn settle(&mut self, alloc: Global, reply: Reply, value: Value) -> Result<(), NoMemory>
+        ensures { OnOk result (self.new ≡ give reply value self.old) }
     {
-        let mut waiting = self.waiting.copied(alloc)?;
         let mut left = List::new(alloc);
         left.push((reply, value))?;
         let mut answers = List::new(alloc);
-        waiting.settle(alloc, &mut answers, left)?;
+        self.waiting.settle(alloc, &mut answers, left)?;
         self.answers.append(answers)?;
-        self.waiting = waiting;
         Ok(())
     }
 
-    /// The step of a message to the output. False where the step isn't possible.
-    pub fn print(&mut self, alloc: Global, maker: &Name, serial: u64) -> Result<bool, NoMemory>
-        ensures { Takes (spec.print_step maker.now serial self.old) self.old result self.new }
+    /// A reply is given to whom it is owed, and then what it fills or completes.
+    pub fn give(self, alloc: Global, reply: Reply, value: Value) -> Result<Run, NoMemory>
+        ensures { IfOk result (λ it. it ≡ give reply value self) }
     {
-        let mut waiting = self.waiting.copied(alloc)?;
-        let Some(message) = waiting.take(maker, serial) else {
-            return Ok(false);
-        };
-        if !message.is_ready() || !is_output(&message.target) {
+        let mut run = self;
+        run.settle(alloc, reply, value)?;
+        Ok(run)
+    }
+
+    /// Whether the message is pending and ready, and goes to the output.
+    fn can_print(&self, maker: &Name, serial: u64) -> bool
+        ensures { result ≡ can_print (spec.pending maker.now serial self.now) }
+    {
+        match self.waiting.message(maker, serial) {
+            Some(message) => message.is_ready() && is_output(&message.target),
+            None => false,
+        }
+    }
+
+    fn print_out(&mut self, alloc: Global, message: Message) -> Result<(), NoMemory>
+        ensures { OnOk result (self.new ≡ give message.reply Null (spec.add_output (spec.message_text message) self.old)) }
+    {
+        let text = printing::message_text(alloc, &message)?;
+        self.output.push(text)?;
+        let (_, reply) = target_and_reply(message);
+        self.settle(alloc, reply, Value::Null)
+    }
+
+    fn print_pending(&mut self, alloc: Global, maker: &Name, serial: u64) -> Result<bool, NoMemory>
+        ensures { IfOk result (λ taken. TakesStep (spec.print_step maker.now serial self.old) self.old (self.new, taken)) }
+    {
+        if !self.can_print(maker, serial) {
             return Ok(false);
         }
-        self.print_out(alloc, waiting, message)?;
-        Ok(true)
+        match self.waiting.take(maker, serial) {
+            Some(message) => {
+                self.print_out(alloc, message)?;
+                Ok(true)
+            }
+            None => Ok(false),
+        }
+    }
+
+    /// The step of a message to the output. False where the step isn't possible.
+    pub fn print(self, alloc: Global, maker: &Name, serial: u64) -> Result<(Run, bool), NoMemory>
+        ensures { IfOk result (λ it. TakesStep (spec.print_step maker.now serial self) self it) }
+    {
+        let mut run = self;
+        let taken = run.print_pending(alloc, maker, serial)?;
+        Ok((run, taken))
     }
 
     fn install(
@@ -575,26 +551,23 @@ impl Run {
         maker: &Name,
         serial: u64,
     ) -> Result<(), NoMemory>
-        ensures ok { OnOk result (self.new ≡ after_bind actor maker.now serial self.old) }
-        ensures err { OnErr result (self.new ≡ self.old) }
+        ensures { OnOk result (self.new ≡ after_bind actor maker.now serial self.old) }
     {
         let mut actors = List::new(alloc);
         actors.push(actor)?;
-        self.actors.add_all(alloc, actors)?;
+        self.actors.add_all(actors)?;
         self.creations.take(maker, serial);
         Ok(())
     }
 
-    /// The step of a creation that comes to its name, where these naming services are there. False
-    /// where the step isn't possible.
-    pub fn bind(
+    fn bind_pending(
         &mut self,
         alloc: Global,
         authorities: &[Authority],
         maker: &Name,
         serial: u64,
     ) -> Result<bool, NoMemory>
-        ensures { Takes (spec.bind_step authorities.now maker.now serial self.old) self.old result self.new }
+        ensures { IfOk result (λ taken. TakesStep (spec.bind_step authorities.now maker.now serial self.old) self.old (self.new, taken)) }
     {
         let Some(creation) = self.creations.get(maker, serial) else {
             return Ok(false);
@@ -610,9 +583,24 @@ impl Run {
         Ok(true)
     }
 
-    /// The step of a creation whose name was given. False where the step isn't possible.
-    pub fn refuse(&mut self, alloc: Global, maker: &Name, serial: u64) -> Result<bool, NoMemory>
-        ensures { Takes (spec.refuse_step maker.now serial self.old) self.old result self.new }
+    /// The step of a creation that comes to its name, where these naming services are there. False
+    /// where the step isn't possible.
+    pub fn bind(
+        self,
+        alloc: Global,
+        authorities: &[Authority],
+        maker: &Name,
+        serial: u64,
+    ) -> Result<(Run, bool), NoMemory>
+        ensures { IfOk result (λ it. TakesStep (spec.bind_step authorities.now maker.now serial self) self it) }
+    {
+        let mut run = self;
+        let taken = run.bind_pending(alloc, authorities, maker, serial)?;
+        Ok((run, taken))
+    }
+
+    fn refuse_pending(&mut self, alloc: Global, maker: &Name, serial: u64) -> Result<bool, NoMemory>
+        ensures { IfOk result (λ taken. TakesStep (spec.refuse_step maker.now serial self.old) self.old (self.new, taken)) }
     {
         let Some(creation) = self.creations.get(maker, serial) else {
             return Ok(false);
@@ -631,9 +619,18 @@ impl Run {
         Ok(true)
     }
 
+    /// The step of a creation whose name was given. False where the step isn't possible.
+    pub fn refuse(self, alloc: Global, maker: &Name, serial: u64) -> Result<(Run, bool), NoMemory>
+        ensures { IfOk result (λ it. TakesStep (spec.refuse_step maker.now serial self) self it) }
+    {
+        let mut run = self;
+        let taken = run.refuse_pending(alloc, maker, serial)?;
+        Ok((run, taken))
+    }
+
     /// A call from outside, where it fits the program. False where the step isn't possible.
     pub fn post(
-        &mut self,
+        self,
         alloc: Global,
         fits: bool,
         number: u64,
@@ -641,15 +638,16 @@ impl Run {
         behavior: u16,
         handler: u16,
         args: &[Value],
-    ) -> Result<bool, NoMemory>
-        ensures { Takes (spec.post_step fits number to.now behavior handler args.now self.old) self.old result self.new }
+    ) -> Result<(Run, bool), NoMemory>
+        ensures { IfOk result (λ it. TakesStep (spec.post_step fits number to.now behavior handler args.now self) self it) }
     {
         if !fits || !fits_post(self.posted, number, to, behavior, args) {
-            return Ok(false);
+            return Ok((self, false));
         }
         let message = post_message(alloc, number, to, behavior, handler, args)?;
-        self.waiting.put_message(message)?;
-        self.posted = number;
-        Ok(true)
+        let mut run = self;
+        run.waiting.put_message(message)?;
+        run.posted = number;
+        Ok((run, true))
     }
 }

@@ -34,7 +34,7 @@ fn leaving(
     })
 }
 
-fn act(alloc: Global, run: &mut Run, outcome: Outcome) -> Result<bool, NoMemory> {
+fn act(alloc: Global, run: Run, outcome: Outcome) -> Result<(Run, bool), NoMemory> {
     run.apply_outcome(alloc, &Name::Outside(0), 0, &[], outcome)
 }
 
@@ -86,14 +86,15 @@ fn one_join(alloc: Global) -> Result<List<Join>, NoMemory> {
     Ok(joins)
 }
 
-fn opens_join(alloc: Global, run: &mut Run) -> Result<bool, NoMemory> {
+fn opens_join(alloc: Global, run: Run) -> Result<Run, NoMemory> {
     let messages = replying(alloc)?;
     let joins = one_join(alloc)?;
     let outcome = leaving(alloc, Value::Null, messages, joins, List::new(alloc));
-    act(alloc, run, outcome)
+    let (run, _) = act(alloc, run, outcome)?;
+    Ok(run)
 }
 
-fn replies(alloc: Global, run: &mut Run, serial: u64, value: i32) -> Result<bool, NoMemory> {
+fn replies(alloc: Global, run: Run, serial: u64, value: i32) -> Result<(Run, bool), NoMemory> {
     let value = Value::Int(value);
     let outcome = leaving(
         alloc,
@@ -107,10 +108,9 @@ fn replies(alloc: Global, run: &mut Run, serial: u64, value: i32) -> Result<bool
 
 /// The run after three replies, of which one comes to a full place.
 fn three_replies(alloc: Global) -> Result<Run, NoMemory> {
-    let mut run = start_with_actor(alloc)?;
-    opens_join(alloc, &mut run)?;
+    let mut run = opens_join(alloc, start_with_actor(alloc)?)?;
     for (serial, value) in [(1, 3), (2, 9), (3, 2)] {
-        replies(alloc, &mut run, serial, value)?;
+        run = replies(alloc, run, serial, value)?.0;
     }
     Ok(run)
 }
@@ -141,34 +141,33 @@ fn a_join_waits_for_its_last_place(rt: HostRuntime) -> Result<(), Fail> {
 
 #[test]
 fn a_join_keeps_each_value_at_its_place(rt: HostRuntime) -> Result<(), Fail> {
-    let mut run = three_replies(rt.alloc())?;
-    assert!(rt; replies(rt.alloc(), &mut run, 4, 1)?);
+    let (run, taken) = replies(rt.alloc(), three_replies(rt.alloc())?, 4, 1)?;
+    assert!(rt; taken);
     let config = run.config(rt.alloc(), List::new(rt.alloc()))?;
     assert!(rt; is_answered(rt.alloc(), &config)?);
     assert_eq!(rt; config.pending(), (0, 0, 0));
     Ok(())
 }
 
-fn gives(alloc: Global, run: &mut Run, place: u32, value: i32) -> Result<(), NoMemory> {
+fn gives(alloc: Global, run: Run, place: u32, value: i32) -> Result<Run, NoMemory> {
     let reply = Reply::Place(Name::Anon(0, 0), 0, place);
     run.give(alloc, reply, Value::Int(value))
 }
 
 /// The places 2, 1 and 0 get 3, 2 and 1.
-fn gives_three(alloc: Global, run: &mut Run) -> Result<(), NoMemory> {
+fn gives_three(alloc: Global, run: Run) -> Result<Run, NoMemory> {
+    let mut run = run;
     for (place, value) in [(2, 3), (1, 2), (0, 1)] {
-        gives(alloc, run, place, value)?;
+        run = gives(alloc, run, place, value)?;
     }
-    Ok(())
+    Ok(run)
 }
 
 /// The run after three replies and one more for place 2, whose join has resolved.
 fn given_again(alloc: Global) -> Result<Run, NoMemory> {
-    let mut run = start_with_actor(alloc)?;
-    opens_join(alloc, &mut run)?;
-    gives_three(alloc, &mut run)?;
-    gives(alloc, &mut run, 2, 9)?;
-    Ok(run)
+    let run = opens_join(alloc, start_with_actor(alloc)?)?;
+    let run = gives_three(alloc, run)?;
+    gives(alloc, run, 2, 9)
 }
 
 #[test]
@@ -182,15 +181,16 @@ fn a_reply_to_a_resolved_join_changes_nothing(rt: HostRuntime) -> Result<(), Fai
 
 #[test]
 fn a_trap_leaves_its_fault_alone(rt: HostRuntime) -> Result<(), Fail> {
-    let mut run = start_with_actor(rt.alloc())?;
-    assert!(rt; act(rt.alloc(), &mut run, Outcome::Trap(Trap::ZeroDivisor))?);
+    let run = start_with_actor(rt.alloc())?;
+    let (run, taken) = act(rt.alloc(), run, Outcome::Trap(Trap::ZeroDivisor))?;
+    assert!(rt; taken);
     let config = run.config(rt.alloc(), List::new(rt.alloc()))?;
     assert_eq!(rt; fault(&config), Some(FaultKind::Trap(Trap::ZeroDivisor)));
     assert_eq!(rt; config.pending(), (0, 0, 0));
     Ok(())
 }
 
-fn sends_to_other(alloc: Global, run: &mut Run) -> Result<bool, NoMemory> {
+fn sends_to_other(alloc: Global, run: Run) -> Result<(Run, bool), NoMemory> {
     let mut messages = List::new(alloc);
     messages.push(message(alloc, 1, 3, Reply::Outside(7)))?;
     let outcome = leaving(
@@ -205,9 +205,9 @@ fn sends_to_other(alloc: Global, run: &mut Run) -> Result<bool, NoMemory> {
 
 #[test]
 fn a_message_of_another_behavior_meets_no_handler(rt: HostRuntime) -> Result<(), Fail> {
-    let mut run = start_with_actor(rt.alloc())?;
-    assert!(rt; sends_to_other(rt.alloc(), &mut run)?);
-    assert!(rt; replies(rt.alloc(), &mut run, 1, 1)?);
+    let (run, sent) = sends_to_other(rt.alloc(), start_with_actor(rt.alloc())?)?;
+    let (run, taken) = replies(rt.alloc(), run, 1, 1)?;
+    assert!(rt; sent && taken);
     let config = run.config(rt.alloc(), List::new(rt.alloc()))?;
     assert_eq!(rt; fault(&config), Some(FaultKind::NoHandler));
     assert!(rt; config.answers().is_empty());
@@ -243,7 +243,7 @@ fn creation(alloc: Global, serial: u64) -> Result<Creation, NoMemory> {
 }
 
 /// Two creations under one name.
-fn creates_twice(alloc: Global, run: &mut Run) -> Result<bool, NoMemory> {
+fn creates_twice(alloc: Global, run: Run) -> Result<(Run, bool), NoMemory> {
     let mut creations = List::new(alloc);
     for serial in 1..3 {
         creations.push(creation(alloc, serial)?)?;
@@ -258,37 +258,37 @@ fn creates_twice(alloc: Global, run: &mut Run) -> Result<bool, NoMemory> {
     act(alloc, run, outcome)
 }
 
-/// Whether one of the two is bound, and no more.
-fn is_bound_once(alloc: Global, run: &mut Run) -> Result<bool, NoMemory> {
+/// The run after both are to be bound, and whether one of the two was, and no more.
+fn binds_once(alloc: Global, run: Run) -> Result<(Run, bool), NoMemory> {
     let services = services(alloc)?;
-    let first = run.bind(alloc, services.as_slice(), &Name::Anon(0, 0), 1)?;
-    let second = run.bind(alloc, services.as_slice(), &Name::Anon(0, 0), 2)?;
-    Ok(first && !second)
+    let (run, first) = run.bind(alloc, services.as_slice(), &Name::Anon(0, 0), 1)?;
+    let (run, second) = run.bind(alloc, services.as_slice(), &Name::Anon(0, 0), 2)?;
+    Ok((run, first && !second))
 }
 
 #[test]
 fn a_name_is_bound_once(rt: HostRuntime) -> Result<(), Fail> {
-    let mut run = start_with_actor(rt.alloc())?;
-    assert!(rt; creates_twice(rt.alloc(), &mut run)?);
-    assert!(rt; is_bound_once(rt.alloc(), &mut run)?);
-    assert!(rt; run.refuse(rt.alloc(), &Name::Anon(0, 0), 2)?);
+    let (run, created) = creates_twice(rt.alloc(), start_with_actor(rt.alloc())?)?;
+    let (run, bound) = binds_once(rt.alloc(), run)?;
+    let (run, refused) = run.refuse(rt.alloc(), &Name::Anon(0, 0), 2)?;
+    assert!(rt; created && bound && refused);
     let config = run.config(rt.alloc(), List::new(rt.alloc()))?;
     assert_eq!(rt; fault(&config), Some(FaultKind::NameTaken));
     assert_eq!(rt; config.actors().len(), 2);
     Ok(())
 }
 
-fn posts(alloc: Global, run: &mut Run, number: u64) -> Result<bool, NoMemory> {
+fn posts(alloc: Global, run: Run, number: u64) -> Result<(Run, bool), NoMemory> {
     let to = universal(alloc)?;
     run.post(alloc, true, number, &to, 0, 1, &[])
 }
 
 #[test]
 fn posts_have_rising_numbers(rt: HostRuntime) -> Result<(), Fail> {
-    let mut run = start_with_actor(rt.alloc())?;
-    assert!(rt; !posts(rt.alloc(), &mut run, 0)?);
-    assert!(rt; posts(rt.alloc(), &mut run, 1)?);
-    assert!(rt; !posts(rt.alloc(), &mut run, 1)?);
+    let (run, zeroth) = posts(rt.alloc(), start_with_actor(rt.alloc())?, 0)?;
+    let (run, first) = posts(rt.alloc(), run, 1)?;
+    let (run, again) = posts(rt.alloc(), run, 1)?;
+    assert!(rt; !zeroth && first && !again);
     let config = run.config(rt.alloc(), List::new(rt.alloc()))?;
     assert_eq!(rt; config.pending(), (2, 0, 0));
     Ok(())

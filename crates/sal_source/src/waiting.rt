@@ -81,14 +81,6 @@ impl Waiting {
         }
     }
 
-    pub fn copied(&self, alloc: Global) -> Result<Waiting, NoMemory>
-        ensures { IfOk result (λ copy. copy ≡ self.now) }
-    {
-        let messages = self.messages.clone_in(alloc)?;
-        let joins = self.joins.copied(alloc)?;
-        Ok(Waiting { messages, joins })
-    }
-
     /// How many messages and how many joins there are.
     pub fn counts(&self) -> (usize, usize)
         ensures { result ≡ (fm.len self.now.messages, fm.len self.now.joins) }

@@ -1,19 +1,17 @@
 -- What the calls that change a configuration answer and leave.
-use Rattle.std.specs.Prelude.{◌≡◌, ℕ, Bool, true, false, List, [], ◌∷◌, ◌++◌, reverse, Option, Some, None, Result, Ok, Err, if◌then◌else◌}
+use Rattle.std.specs.Prelude.{◌≡◌, ℕ, Bool, true, false, List, [], ◌∷◌, ◌++◌, reverse, Option, Some, None, if◌then◌else◌}
 use Rattle.sal_value.specs.declared.name.Name.{Name}
 use Rattle.sal_value.specs.declared.value.Value.{Value}
-use Rattle.sal_value.specs.declared.no_memory.NoMemory.{NoMemory}
 use Rattle.sal_mail.specs.declared.message.Join.{Join}
 use Rattle.sal_mail.specs.Message.{is_full}
 use Rattle.sal_source.specs.Configuration.{Waiting, Configuration}
 use Rattle.sal_source.specs.Give.{DueReply, full_join_reply, give_one, replies_if_legal, answers_if_legal, settle_all, settle_all_answers}
 use Rattle.sal_source.specs.Step as s
 
--- what a step that is possible leaves; after a refusal and when out of memory all is as before
-abbrev pub Takes : Option Configuration → Configuration → Result Bool NoMemory → Configuration → Type 0
-Takes outcome old (Ok true) new = outcome ≡ Some new
-Takes outcome old (Ok false) new = (outcome ≡ None) × (new ≡ old)
-Takes outcome old (Err e) new = new ≡ old
+-- what a step leaves, and whether it was possible: one that isn't possible leaves all as it was
+abbrev pub TakesStep : Option Configuration → Configuration → Configuration × Bool → Type 0
+TakesStep outcome old (new, true) = outcome ≡ Some new
+TakesStep outcome old (new, false) = (outcome ≡ None) × (new ≡ old)
 
 -- the item alone, if there is one
 abbrev pub option_list : {A : Type 0} → Option A → List A

@@ -1,11 +1,11 @@
 -- How the ordered maps of a run stand for its tables of actors and of open joins: what the code that keeps a run
 -- finds in its maps.
-use Rattle.std.specs.Prelude.{ℕ, List, map, Option, Some, None}
+use Rattle.std.specs.Prelude.{ℕ, List, map}
 use Rattle.sal_value.specs.declared.name.Name.{Name}
 use Rattle.sal_value.specs.declared.name.Name.TheVariants as name
 use Rattle.sal_mail.specs.declared.effects.Actor.{Actor}
 use Rattle.sal_mail.specs.declared.message.Join.{Join}
-use Rattle.sal_source.specs.Table.{TableKey, Table, table_of, write}
+use Rattle.sal_source.specs.Table.{TableKey, Table, table_of}
 use Rattle.sal_source.specs.Keys.{name_key, actor_key, made_key, join_key}
 use Rattle.sal_source.specs.declared.actor_map.ActorState.{ActorState}
 use Rattle.sal_source.specs.declared.open_joins.OpenJoin.{OpenJoin}
@@ -19,11 +19,6 @@ actor_of e = (record { name = e.0; behavior = e.1.behavior; fields = e.1.fields 
 -- the actors of these entries
 abbrev pub actors_in : List (Name × ActorState) → Table (Actor × ℕ)
 actors_in es = table_of actor_key (map actor_of es)
-
--- the actors with what was at the name before
-abbrev pub put_back : Name → Option ActorState → Table (Actor × ℕ) → Table (Actor × ℕ)
-put_back name None t = write t (name_key name) None
-put_back name (Some state) t = write t (name_key name) (Some (actor_of (name, state)))
 
 -- the key of the name that is looked for
 abbrev pub query_key : NameQuery → TableKey

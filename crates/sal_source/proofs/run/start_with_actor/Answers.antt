@@ -14,7 +14,7 @@ returns c =
     let it : Actor × ℕ = start_actor c.args.behavior c.args.fields in
     let k = name_key start_name in
     let actors : c.add_all.new.self ≡ write fm.empty k (Some it) =
-    c.in_ok-add_all.ensures.ok
+    c.in_ok-add_all.ensures
     ∙ (λ i. put_actors ((c.in_ok-push.ensures.ok ∙ ap (λ (l : List Actor). l ++ it.0 ∷ []) c.new-more.ensures) i) (c.new-actors.ensures i)) in
     λ i. record {
       actors = actors i;

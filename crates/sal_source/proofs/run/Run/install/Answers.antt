@@ -7,11 +7,11 @@ use Rattle.sal_source.specs.code.Handling.{after_bind}
 use Rattle.sal_source.proofs.Given.{keys_write}
 use Rattle.sal_source.proofs.run.Run.install.Goals as goal
 
-pub returns-clause-ok : goal.returns-clause-ok
-returns-clause-ok c =
+pub returns : goal.returns
+returns c =
     let k = name_key c.args.actor.name in
     let actors : c.add_all.new.self ≡ write c.self.inside.actors k (Some (c.args.actor, 0)) =
-    c.in_ok-add_all.ensures.ok ∙ ap (λ (l : List Actor). put_actors l c.self.inside.actors) (c.in_ok-push.ensures.ok ∙ ap (λ (l : List Actor). l ++ c.args.actor ∷ []) c.new-actors.ensures) in
+    c.in_ok-add_all.ensures ∙ ap (λ (l : List Actor). put_actors l c.self.inside.actors) (c.in_ok-push.ensures.ok ∙ ap (λ (l : List Actor). l ++ c.args.actor ∷ []) c.new-actors.ensures) in
     (λ i. record {
       actors = actors i;
       given = (ap keys_of actors ∙ keys_write c.self.inside.actors k (c.args.actor, 0)) i;

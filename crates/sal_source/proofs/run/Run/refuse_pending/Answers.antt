@@ -10,7 +10,7 @@ use Rattle.sal_source.specs.Step.{is_given, refuse_step, add_fault, drop_creatio
 use Rattle.sal_source.specs.contracts.run.Run.{the_view}
 use Rattle.sal_source.proofs.Given.{contains_keys}
 use Rattle.sal_source.proofs.Handled.{refuse_not, refuse_done}
-use Rattle.sal_source.proofs.run.Run.refuse.Goals as goal
+use Rattle.sal_source.proofs.run.Run.refuse_pending.Goals as goal
 
 pub returns-then-not-contains : goal.returns-then-not-contains
 returns-then-not-contains c =

@@ -9,7 +9,7 @@ use Rattle.sal_source.specs.code.Handling.{after_bind}
 use Rattle.sal_source.specs.contracts.run.Run.{the_view}
 use Rattle.sal_source.proofs.Given.{contains_keys}
 use Rattle.sal_source.proofs.Handled.{bind_given, bind_done}
-use Rattle.sal_source.proofs.run.Run.bind.Goals as goal
+use Rattle.sal_source.proofs.run.Run.bind_pending.Goals as goal
 
 pub returns-then-contains : goal.returns-then-contains
 returns-then-contains c =
@@ -29,4 +29,4 @@ returns c =
     let P : Configuration → Type 0 = λ d. bind_step c.args.authorities.now c.args.maker.now c.args.serial d ≡ Some (after_bind (bound_actor c.in-Some.creation.now.1) c.args.maker.now c.args.serial d) in
     subst P c.self.view_is (bind_done c.args.authorities.now c.args.maker.now c.args.serial old c.in-Some.creation.now c.in-Some.ensures (sym c.is_served.ensures ∙ c.if-not-is_served.false) given)
     ∙ ap (λ (a : Actor). Some (after_bind a c.args.maker.now c.args.serial c.args.self.now)) (sym c.in_ok-actor.ensures)
-    ∙ ap (λ (d : Configuration). Some d) (sym c.in_ok-install.ensures.ok)
+    ∙ ap (λ (d : Configuration). Some d) (sym c.in_ok-install.ensures)

@@ -1,0 +1,6 @@
+//! What runs a program's handlers.
+#![tactic(auto)]
+
+mod tree;
+
+pub use tree::TreeRunner;
