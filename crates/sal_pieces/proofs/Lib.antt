@@ -1,0 +1,17 @@
+pub mod Answers
+pub mod Below
+pub mod Beside
+pub mod Binding
+pub mod Books
+pub mod Creations
+pub mod Entering
+pub mod Order
+pub mod Handling
+pub mod Making
+pub mod Passing
+pub mod Placing
+pub mod Standing
+pub mod Stepping
+pub mod Tidy
+pub mod Final
+pub mod Keeping

@@ -1,0 +1,9 @@
+pub mod Pieces
+pub mod Image
+pub mod Once
+pub mod Order
+pub mod Entering
+pub mod Answers
+pub mod Steps
+pub mod Final
+pub mod Keeping
