@@ -1,13 +1,8 @@
-mod Bodies
-mod Chains
-mod Heads
 mod InMemory
-mod Names
-mod Pieces
-mod Stages
-mod Strings
-mod Takes
-mod Texts
-mod Whole
-pub mod Judging
+mod OnFiles
+mod Checking
+mod Judging
 mod Causes
+mod Telling
+mod Running
+mod Sizes

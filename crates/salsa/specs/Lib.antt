@@ -1,7 +1,5 @@
-pub mod Form
 pub mod Memory
 pub mod Outside
-pub mod Reading
-pub mod Seen
-pub mod Tokens
+pub mod Programs
 pub mod Top
+pub mod code

@@ -1,11 +1,13 @@
-//! Runs actor programs: `salsa run P`.
+//! Checks and runs actor programs: `salsa check P`, `salsa run P words..`.
 #![tactic(auto)]
 
-mod form;
-mod judge;
+mod line;
 mod memory;
 mod outside;
+mod read;
 mod real;
+mod refusal;
+mod run;
 mod top;
 mod words;
 

@@ -1,8 +1,10 @@
 use crate::memory::{Entry, MemFiles, MemSink};
 use crate::outside::{Files, Sink};
+use crate::read::read_program;
 use crate::real::{RealFiles, RealSink};
 use crate::top::salsa;
-use sal_value::{List, NoMemory, Text};
+use sal_source::{Config, PlayFault, Setup, Step, play};
+use sal_value::{List, Name, NoMemory, Text};
 use std::alloc::Global;
 use std::fs;
 use std::test::Fail;
@@ -13,6 +15,39 @@ const HELLO: &str =
 const EMPTY: &str = "behavior E { void act(String[] a) { } }";
 
 const FIELD: &str = "behavior A { int x; void act(String[] a) { } }";
+
+const NO_VALUE: &str = "behavior A { void act(String[] args) { int x = ; } }";
+
+const NO_RESULT: &str = "behavior A { int m() { } void act(String[] a) { } }";
+
+const NO_CHAIN: &str = "behavior A { void act(String[] a) { join { } @ println(token); } }";
+
+const FIBONACCI: &str =
+    "behavior Fib { int add(int[] x) { return x[0] + x[1]; } int compute(int n) { if (n < 2) return n; join { new Fib()<-compute(n - 1); new Fib()<-compute(n - 2); } @ add(token) @ currentContinuation; } void act(String[] a) { compute(10) @ standardOutput<-println(token); } }";
+
+const NUMBERS: &str =
+    "behavior N { void act(String[] a) { standardOutput<-println(2147483647 + 1) @ standardOutput<-println(-7 / 2) @ standardOutput<-println(-7 % 2) @ standardOutput<-println(-2147483648 / -1); } }";
+
+const LOOPS: &str =
+    "behavior L { int n; int spin(int k) { for (int i = 0; i < k; i = i + 1) n = i; return n; } void act(String[] a) { self<-spin(100000) @ standardOutput<-println(token); join { self<-spin(100001); self<-spin(1); } @ standardOutput<-println(\"never\"); } }";
+
+const MIGRATES: &str =
+    "behavior M { void act(String[] a) { self<-migrate(\"rmsp://nowhere/\") @ standardOutput<-println(\"here\"); self<-migrate(\"x\"); } }";
+
+const ORDER: &str =
+    "behavior O { void act(String[] x) { standardOutput<-print(\"a\") @ standardOutput<-print(\"c\"); standardOutput<-print(\"b\") @ standardOutput<-print(\"d\"); } }";
+
+const LATE: &str =
+    "behavior D { void a() { } void act(String[] x) { token y = self<-a(); standardOutput<-println(\"late\"):delay(300):waitfor(y); standardOutput<-println(\"soon\"):delay(250); } }";
+
+const WORDS: &str =
+    "behavior W { void act(String[] x) { for (int i = 0; i < x.length; i = i + 1) standardOutput<-print(x[i]); } }";
+
+const NAMES: &str =
+    "behavior X { void act(String[] a) { X x = new X() at (\"uan://localhost/x\"); } }";
+
+const NAMED: &str =
+    "behavior X { void act(String[] a) { X x = X.getReferenceByName(\"uan://localhost/x\"); } }";
 
 const HEAD: &str = "behavior A { void act(String[] a) { standardOutput<-print(\"x\")";
 
@@ -90,9 +125,83 @@ fn programs_run_or_are_refused(rt: HostRuntime) -> Result<(), Fail> {
     for (text, status, out, err) in [
         (HELLO, 0, "Hello World!\n", ""),
         (EMPTY, 0, "", ""),
-        (FIELD, 2, "", "refused form\n"),
+        (FIELD, 0, "", ""),
+        (FIBONACCI, 0, "55\n", ""),
+        (NUMBERS, 0, "-2147483648\n-3\n-1\n-2147483648\n", ""),
+        (LOOPS, 0, "99999\n", "fault anon:0:0 3 too-many-turns\n"),
+        (MIGRATES, 0, "here\n", "fault anon:0:0 2 bad-locator\n"),
+        (ORDER, 0, "abcd", ""),
+        (LATE, 0, "soon\nlate\n", ""),
+        (WORDS, 0, "xyz", ""),
+        (NAMES, 2, "", "refused form\n"),
+        (NAMED, 2, "", "refused form\n"),
+        (NO_RESULT, 2, "", "refused Y8 at 17\n"),
     ] {
-        let it = left_by(alloc, &["run", "p"], text, List::new(alloc))?;
+        let it = left_by(alloc, &["run", "p", "x", "yz"], text, List::new(alloc))?;
+        assert_eq!(rt; it.status, status, "{text}");
+        assert_eq!(rt; it.out.as_slice(), out.as_bytes(), "{text}");
+        assert_eq!(rt; it.err.as_slice(), err.as_bytes(), "{text}");
+    }
+    Ok(())
+}
+
+/// The first program's run of the first steps of these: `act`, and its two prints, or the prints alone.
+fn played(alloc: Global, with_act: bool, count: usize) -> Result<Config, PlayFault> {
+    let mut steps = List::new(alloc);
+    if with_act {
+        steps.push(Step::Handle {
+            maker: Name::Outside(0),
+            serial: 0,
+            fresh: List::new(alloc),
+        })?;
+    }
+    for serial in 0..2 {
+        steps.push(Step::Print {
+            maker: Name::Anon(0, 0),
+            serial,
+        })?;
+    }
+    let setup = Setup {
+        authorities: List::new(alloc),
+        words: List::new(alloc),
+    };
+    let Ok(program) = read_program(alloc, HELLO.as_bytes()) else {
+        return Err(PlayFault::Memory);
+    };
+    let steps = steps.as_slice();
+    play(alloc, &program, &setup, &steps[..count.min(steps.len())])
+}
+
+#[test]
+fn steps_are_played(rt: HostRuntime) -> Result<(), Fail> {
+    let alloc = rt.alloc();
+    for (count, texts, pending, is_final) in [(1, 0, 2, false), (2, 1, 1, false), (3, 2, 0, true)] {
+        let config = played(alloc, true, count).expect(&rt, "the steps are possible");
+        assert_eq!(rt; config.output().len(), texts);
+        assert_eq!(rt; config.pending().0, pending);
+        assert_eq!(rt; config.is_final(), is_final);
+    }
+    let bad = played(alloc, false, 1).err();
+    assert_eq!(rt; bad, Some(PlayFault::BadStep(0)));
+    Ok(())
+}
+
+#[test]
+fn programs_are_checked(rt: HostRuntime) -> Result<(), Fail> {
+    let alloc = rt.alloc();
+    for (text, status, out, err) in [
+        (HELLO, 0, "ok\n", ""),
+        (FIELD, 0, "ok\n", ""),
+        ("", 2, "", "refused P2 at 0 open -\n"),
+        ("behavior A {", 2, "", "refused P2 at 12 open 11\n"),
+        (NO_VALUE, 2, "", "refused P1 at 47 open 37\n"),
+        ("behavior A { # }", 2, "", "refused L1 at 13\n"),
+        ("behavior A { int x = 007; }", 2, "", "refused L3 at 21\n"),
+        ("behavior A { }", 2, "", "refused Y12 at 0\n"),
+        (NO_RESULT, 2, "", "refused Y8 at 17\n"),
+        (NO_CHAIN, 2, "", "refused Y30 at 36\n"),
+    ] {
+        let it = left_by(alloc, &["check", "p"], text, List::new(alloc))?;
         assert_eq!(rt; it.status, status, "{text}");
         assert_eq!(rt; it.out.as_slice(), out.as_bytes(), "{text}");
         assert_eq!(rt; it.err.as_slice(), err.as_bytes(), "{text}");
@@ -126,13 +235,17 @@ fn a_closed_output_is_a_fault(rt: HostRuntime) -> Result<(), Fail> {
 }
 
 #[test]
-fn a_chain_has_at_most_1024_stages(rt: HostRuntime) -> Result<(), Fail> {
+fn a_handler_sends_at_most_1024_messages(rt: HostRuntime) -> Result<(), Fail> {
     let alloc = rt.alloc();
-    for (more, status, length) in [(1023, 0, 1024), (1024, 2, 0)] {
+    for (more, length, fault) in [
+        (1023, 1024, ""),
+        (1024, 0, "fault outside:0 0 too-many-messages\n"),
+    ] {
         let text = chain(alloc, more)?;
         let it = left_by(alloc, &["run", "p"], text.as_str(), List::new(alloc))?;
-        assert_eq!(rt; it.status, status);
+        assert_eq!(rt; it.status, 0);
         assert_eq!(rt; it.out.len(), length);
+        assert_eq!(rt; it.err.as_slice(), fault.as_bytes());
     }
     Ok(())
 }
