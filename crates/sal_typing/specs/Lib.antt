@@ -1,0 +1,5 @@
+pub mod Numbers
+pub mod Known
+pub mod Agreement
+pub mod Laws
+pub mod Parts

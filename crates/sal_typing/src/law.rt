@@ -1,0 +1,38 @@
+//! Laws of typed programs.
+
+ghost use Rattle.sal_typing.specs.Laws.{ExpressionsHaveTheirSorts, MessagesHaveTheirSorts, StatementsKeepScopes, ChainsHaveTheirSorts, VoidJoinsAreVoid, ExpressionsHaveParts, MessagesHaveParts};
+
+/// The type that the meaning reads off a typed expression is the checker's.
+pub fn expressions_have_their_sorts()
+    ensures { ExpressionsHaveTheirSorts }
+{}
+
+/// So is that of the reply of a typed message.
+pub fn messages_have_their_sorts()
+    ensures { MessagesHaveTheirSorts }
+{}
+
+/// A typed statement brings the same names into scope for the checker and for the meaning.
+pub fn statements_keep_scopes()
+    ensures { StatementsKeepScopes }
+{}
+
+/// The type that the meaning reads off a typed chain is that of its result.
+pub fn chains_have_their_sorts()
+    ensures { ChainsHaveTheirSorts }
+{}
+
+/// A typed join is void for the meaning where it is void for the checker.
+pub fn void_joins_are_void()
+    ensures { VoidJoinsAreVoid }
+{}
+
+/// Each part of a typed expression is typed, and fits the others.
+pub fn expressions_have_parts()
+    ensures { ExpressionsHaveParts }
+{}
+
+/// Each part of a typed message is typed, and its target has the handler.
+pub fn messages_have_parts()
+    ensures { MessagesHaveParts }
+{}
