@@ -1,0 +1,9 @@
+pub mod Anything
+pub mod Changes
+pub mod Handlers
+pub mod Rising
+pub mod Running
+pub mod Sending
+pub mod Sorts
+pub mod Trees
+pub mod Values

@@ -1,0 +1,7 @@
+//! What the effects of every handler keep, beyond the laws of `sal_handler`: functions without work,
+//! whose contracts are the laws.
+#![tactic(auto)]
+
+mod law;
+
+pub use law::handlers_number_in_order;
