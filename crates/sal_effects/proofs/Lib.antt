@@ -4,6 +4,8 @@ pub mod Handlers
 pub mod Rising
 pub mod Running
 pub mod Sending
+pub mod Serving
+pub mod Small
 pub mod Sorts
 pub mod Trees
 pub mod Values

@@ -23,7 +23,7 @@ use Rattle.sal_ast.specs.declared.expression.Expr.TheOpen.{Expr-F}
 use Rattle.sal_ast.specs.declared.expression.Expr.TheFolds.{fold-Suffix, fold-At, fold-Operand, map-Expr, fold-roll-Expr, ind-Expr}
 use Rattle.sal_ast.specs.declared.statement.Aim.{Aim}
 use Rattle.sal_ast.specs.declared.statement.Aim.TheVariants as aim
-use Rattle.sal_ast.specs.Members.{Field, behavior_by_name, valid_number}
+use Rattle.sal_ast.specs.Members.{Field, Handler, behavior_by_name, handler_by_name, valid_number}
 use Rattle.sal_ast.specs.Sorts as s
 use Rattle.sal_ast.specs.Sorts.{Variable, Scope, SortInScope, type_sort, field_sort, name_sort, sort_of, sort_step, suffix_step, at_step, operand_step}
 use Rattle.sal_ast.proofs.Closing.{Known}
@@ -48,6 +48,14 @@ valid p xs (Some n) e = at (nat_lt n 65535) refl
 pub found_behavior : (name : List ℕ) (behaviors : List Behavior) → IfAny (λ b. (b < length behaviors) × (b < 65535)) (behavior_by_name name behaviors)
 unfolding behavior_by_name
 found_behavior name behaviors = valid (λ b. bytes_eq b.name.text name) behaviors (position (λ b. bytes_eq b.name.text name) behaviors) refl
+
+pub found_handler : (name : List ℕ) (handlers : List Handler) → IfAny (λ k. k < length handlers) (handler_by_name name handlers)
+unfolding handler_by_name
+found_handler name handlers = at (valid_number (position (λ h. bytes_eq h.name name) handlers)) (valid (λ h. bytes_eq h.name name) handlers (position (λ h. bytes_eq h.name name) handlers) refl)
+  where
+    at : (o : Option ℕ) → IfAny (λ b. (b < length handlers) × (b < 65535)) o → IfAny (λ k. k < length handlers) o
+    at None g = tt
+    at (Some k) g = g.0
 
 -- ---- types
 

@@ -1,6 +1,20 @@
 ghost use Rattle.sal_effects.specs.Numbers.{HandlersNumberInOrder};
+ghost use Rattle.sal_effects.specs.Sizes.{HandlersStaySmall};
+ghost use Rattle.sal_effects.specs.Slots.{HandlersServeSlots};
 
 /// Messages, joins and creations of a handler have their numbers in the order of their lists.
 pub fn handlers_number_in_order()
     ensures { HandlersNumberInOrder }
+{}
+
+/// A message waits for each number once and is delayed by a day at most, its handler is one that its
+/// target may have, and a join has few slots.
+pub fn handlers_stay_small()
+    ensures { HandlersStaySmall }
+{}
+
+/// New joins are empty, and each slot of theirs is owed exactly once by the same effects; a reply that
+/// was passed on is owed exactly once.
+pub fn handlers_serve_slots()
+    ensures { HandlersServeSlots }
 {}

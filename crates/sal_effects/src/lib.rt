@@ -4,4 +4,4 @@
 
 mod law;
 
-pub use law::handlers_number_in_order;
+pub use law::{handlers_number_in_order, handlers_serve_slots, handlers_stay_small};
