@@ -45,7 +45,7 @@ split : (a b : Bool) → a && b ≡ true → (a ≡ true) × (b ≡ true)
 split true b e = (refl, e)
 split false b e = absurd cc
 
-each_got : {X : Type 0} (P : X → Type 0) (xs : List X) (i : ℕ) → EachOf P xs → IfAny P (slice_get xs i)
+pub each_got : {X : Type 0} (P : X → Type 0) (xs : List X) (i : ℕ) → EachOf P xs → IfAny P (slice_get xs i)
 each_got P [] i e = tt
 each_got P (x ∷ xs) zero e = e.0
 each_got P (x ∷ xs) (suc i) e = each_got P xs i e.1

@@ -1,4 +1,5 @@
 pub mod Anything
+pub mod Beginning
 pub mod Changes
 pub mod Handlers
 pub mod Rising
@@ -7,5 +8,6 @@ pub mod Sending
 pub mod Serving
 pub mod Small
 pub mod Sorts
+pub mod Spelling
 pub mod Trees
 pub mod Values

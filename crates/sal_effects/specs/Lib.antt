@@ -1,4 +1,5 @@
 pub mod Numbers
 pub mod Sizes
 pub mod Slots
+pub mod Spelled
 pub mod Texts

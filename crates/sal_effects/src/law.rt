@@ -1,6 +1,7 @@
 ghost use Rattle.sal_effects.specs.Numbers.{HandlersNumberInOrder};
 ghost use Rattle.sal_effects.specs.Sizes.{HandlersStaySmall};
 ghost use Rattle.sal_effects.specs.Slots.{HandlersServeSlots};
+ghost use Rattle.sal_effects.specs.Spelled.{HandlersSpellAll, ProgramsBeginLegally};
 
 /// Messages, joins and creations of a handler have their numbers in the order of their lists.
 pub fn handlers_number_in_order()
@@ -17,4 +18,14 @@ pub fn handlers_stay_small()
 /// was passed on is owed exactly once.
 pub fn handlers_serve_slots()
     ensures { HandlersServeSlots }
+{}
+
+/// Where a call is sound, names and locators of the effects have spellings, and the answer is legal.
+pub fn handlers_spell_all()
+    ensures { HandlersSpellAll }
+{}
+
+/// The fields with which a program begins are legal.
+pub fn programs_begin_legally()
+    ensures { ProgramsBeginLegally }
 {}

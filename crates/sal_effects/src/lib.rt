@@ -4,4 +4,7 @@
 
 mod law;
 
-pub use law::{handlers_number_in_order, handlers_serve_slots, handlers_stay_small};
+pub use law::{
+    handlers_number_in_order, handlers_serve_slots, handlers_spell_all, handlers_stay_small,
+    programs_begin_legally,
+};
