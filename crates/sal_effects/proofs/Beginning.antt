@@ -1,5 +1,5 @@
 -- How programs begin.
-use Rattle.std.proofs.Common.{◌≡◌, ℕ, zero, suc, ◌+◌, ◌<◌, Bool, true, false, if◌then◌else◌, List, [], ◌∷◌, Option, Some, None, Ok, Err, refl, sym, ap, subst, arith}
+use Rattle.std.proofs.Common.{◌≡◌, ℕ, ◌+◌, ◌<◌, Bool, true, false, if◌then◌else◌, List, [], ◌∷◌, Option, Some, None, Ok, Err, refl, subst, arith}
 use Rattle.std.specs.Prelude.{slice_get, nat_lt}
 use Rattle.std.specs.List.{position}
 use Rattle.std.proofs.lemmas.Bool.{ltb-true}
@@ -7,7 +7,6 @@ use Rattle.sal_value.specs.declared.value.Value.{Value}
 use Rattle.sal_ast.specs.declared.program.Behavior.{Behavior}
 use Rattle.sal_ast.specs.declared.program.Program.{Program}
 use Rattle.sal_ast.specs.Members.{handlers_of, valid_number}
-use Rattle.sal_handler.specs.declared.turn.Began.{Began}
 use Rattle.sal_handler.specs.declared.turn.Began.TheVariants as began
 use Rattle.sal_handler.specs.Evaluation.{OrTrap}
 use Rattle.sal_handler.specs.Handler as h

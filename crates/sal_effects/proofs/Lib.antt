@@ -2,6 +2,8 @@ pub mod Anything
 pub mod Beginning
 pub mod Changes
 pub mod Handlers
+pub mod InRange
+pub mod Ranging
 pub mod Rising
 pub mod Running
 pub mod Sending

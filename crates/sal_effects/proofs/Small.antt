@@ -38,7 +38,7 @@ use Rattle.sal_effects.proofs.Anything.{anything, each_any}
 use Rattle.sal_effects.proofs.Changes.{IsBehavior, GoodSort, LocalOk, MatchesAim, IsSend, Law, slots_after, places_after, taken, sent, opened, closed, open_one, owed_to}
 use Rattle.sal_effects.proofs.Handlers.{has_run, HasRun}
 use Rattle.sal_effects.proofs.Running.{each_set}
-use Rattle.sal_effects.proofs.Sorts.{aimed, found_handler}
+use Rattle.sal_effects.proofs.Sorts.{aimed, found_handler, variables_good}
 
 -- ---- numbers that differ
 
@@ -189,14 +189,10 @@ module _ (behaviors : List Behavior) (mine : ℕ) (own : mine < length behaviors
   aim_for (aim.Actor y) name o r target.Output e g ok = absurd ok
   aim_for (aim.Actor y) name o r (target.Actor n) e g ok = actor_for name o r e g
 
-variables_good : (behaviors : List Behavior) (mine : ℕ) (ls : List Local) → EachOf (LocalOk anything behaviors mine) ls → EachOf (λ v. GoodSort behaviors mine v.sort) (map variable_of ls)
-variables_good behaviors mine [] k = tt
-variables_good behaviors mine (l ∷ ls) k = (k.0.sort, variables_good behaviors mine ls k.1)
-
 message_for : (y : Send) (r : Context) (to : Target) (s : State) → r.mine < length r.behaviors → EachOf (LocalOk anything r.behaviors r.mine) s.locals → MatchesAim y.aim to → IsFor r.behaviors to (m.handler_id_of y r s).behavior (m.handler_id_of y r s).handler
 unfolding m.handler_id_of
 message_for y r to s own ls ok =
-    aim_for r.behaviors r.mine own y.aim y.handler.text (target_behavior y.aim (scope_of r s)) r to refl (aimed r.behaviors r.mine y.aim (map variable_of s.locals) (variables_good r.behaviors r.mine s.locals ls)) ok
+    aim_for r.behaviors r.mine own y.aim y.handler.text (target_behavior y.aim (scope_of r s)) r to refl (aimed r.behaviors r.mine y.aim (map variable_of s.locals) (variables_good r.behaviors r.mine s.locals (each_more (LocalOk anything r.behaviors r.mine) (λ (z : Local). GoodSort r.behaviors r.mine z.sort) s.locals (λ z k. k.sort) ls))) ok
 
 -- ---- what a part keeps
 

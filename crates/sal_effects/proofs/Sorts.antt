@@ -27,6 +27,8 @@ use Rattle.sal_ast.specs.Members.{Field, Handler, behavior_by_name, handler_by_n
 use Rattle.sal_ast.specs.Sorts as s
 use Rattle.sal_ast.specs.Sorts.{Variable, Scope, SortInScope, type_sort, field_sort, name_sort, sort_of, sort_step, suffix_step, at_step, operand_step}
 use Rattle.sal_ast.proofs.Closing.{Known}
+use Rattle.sal_handler.specs.declared.state.Local.{Local}
+use Rattle.sal_handler.specs.Scopes.{variable_of}
 use Rattle.sal_handler.specs.WellFormed.{EachOf}
 use Rattle.sal_handler.proofs.Induction.{IfAny}
 use Rattle.sal_effects.proofs.Changes.{IsBehavior, GoodBase, GoodSort}
@@ -56,6 +58,19 @@ found_handler name handlers = at (valid_number (position (λ h. bytes_eq h.name 
     at : (o : Option ℕ) → IfAny (λ b. (b < length handlers) × (b < 65535)) o → IfAny (λ k. k < length handlers) o
     at None g = tt
     at (Some k) g = g.0
+
+pub handler_low : (name : List ℕ) (handlers : List Handler) → IfAny (λ k. k < 65535) (handler_by_name name handlers)
+unfolding handler_by_name
+handler_low name handlers = at (valid_number (position (λ h. bytes_eq h.name name) handlers)) (valid (λ h. bytes_eq h.name name) handlers (position (λ h. bytes_eq h.name name) handlers) refl)
+  where
+    at : (o : Option ℕ) → IfAny (λ b. (b < length handlers) × (b < 65535)) o → IfAny (λ k. k < 65535) o
+    at None g = tt
+    at (Some k) g = g.1
+
+-- the locals as their types see them
+pub variables_good : (behaviors : List Behavior) (mine : ℕ) (ls : List Local) → EachOf (λ (l : Local). GoodSort behaviors mine l.sort) ls → EachOf (λ (v : Variable). GoodSort behaviors mine v.sort) (map variable_of ls)
+variables_good behaviors mine [] k = tt
+variables_good behaviors mine (l ∷ ls) k = (k.0, variables_good behaviors mine ls k.1)
 
 -- ---- types
 

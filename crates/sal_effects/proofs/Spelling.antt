@@ -1,5 +1,5 @@
 -- What handlers leave has a spelling.
-use Rattle.std.proofs.Common.{◌≡◌, ℕ, zero, suc, ◌+◌, ◌≤◌, ◌<◌, inl, inr, Bool, true, false, ◌&&◌, List, [], ◌∷◌, ◌++◌, length, Option, Some, None, Ok, refl, sym, ap, subst, ◌∙◌, arith}
+use Rattle.std.proofs.Common.{◌≡◌, ℕ, zero, suc, ◌+◌, inl, inr, Bool, true, false, ◌&&◌, List, [], ◌∷◌, length, Option, Some, None, refl, sym, subst, ◌∙◌}
 use Rattle.std.specs.Prelude.{slice_get, nat_le}
 use Rattle.sal_value.specs.declared.name.Uan.{Uan}
 use Rattle.sal_value.specs.declared.name.Ual.{Ual}
@@ -13,11 +13,8 @@ use Rattle.sal_value.proofs.Equations.{fits_ref}
 use Rattle.sal_value.proofs.Decided.{names_are_decided}
 use Rattle.sal_value.proofs.Readings.{names_are_read, locators_are_read}
 use Rattle.sal_ast.specs.declared.program.Behavior.{Behavior}
-use Rattle.sal_ast.specs.declared.program.Program.{Program}
-use Rattle.sal_ast.specs.declared.statement.Send.{Send}
 use Rattle.sal_mail.specs.declared.message.Target.{Target}
 use Rattle.sal_mail.specs.declared.message.Target.TheVariants as target
-use Rattle.sal_mail.specs.declared.message.Piece.{Piece}
 use Rattle.sal_mail.specs.declared.message.Reply.{Reply}
 use Rattle.sal_mail.specs.declared.message.Reply.TheVariants.{Nobody, Tok, Place, Outside}
 use Rattle.sal_mail.specs.declared.message.Message.{Message}
@@ -25,25 +22,23 @@ use Rattle.sal_mail.specs.declared.effects.Actor.{Actor}
 use Rattle.sal_mail.specs.declared.effects.Creation.{Creation}
 use Rattle.sal_mail.specs.declared.effects.Effects.{Effects}
 use Rattle.sal_envelope.specs.Spelling.{reply_is_spelled}
-use Rattle.sal_handler.specs.declared.state.End.{End}
 use Rattle.sal_handler.specs.declared.state.Flow.{Flow}
 use Rattle.sal_handler.specs.declared.state.Flow.TheVariants.{Next, Returned, Passed}
 use Rattle.sal_handler.specs.declared.state.State.{State}
 use Rattle.sal_handler.specs.Scopes as c
 use Rattle.sal_handler.specs.Scopes.{Context, fresh_name}
 use Rattle.sal_handler.specs.Handler as h
-use Rattle.sal_handler.specs.Calls.{Call}
-use Rattle.sal_handler.specs.WellFormed.{EachOf, Legal, IsSoundCall, IsGoodMessage, IsNewReply, IsAllowedReply, IsOrderly, HaveFreshNames, program_sizes}
+use Rattle.sal_handler.specs.WellFormed.{EachOf, Legal, IsGoodMessage, IsNewReply, IsAllowedReply, HaveFreshNames, program_sizes}
 use Rattle.sal_handler.proofs.Addresses.{each_append, each_more}
 use Rattle.sal_handler.proofs.FairCalls.{handlers_orderly}
 use Rattle.sal_handler.proofs.Legal as l
 use Rattle.sal_effects.specs.Texts.{program_texts}
-use Rattle.sal_effects.specs.Spelled.{TargetIsSpelled, IsLocator, IsLegalAnswer, MessageIsSpelled, IsSpelled, HandlersSpellAll, ProgramsBeginLegally}
+use Rattle.sal_effects.specs.Spelled.{TargetIsSpelled, IsLocator, IsLegalAnswer, MessageIsSpelled, HandlersSpellAll, ProgramsBeginLegally}
 use Rattle.sal_effects.proofs.Anything.{each_any}
 use Rattle.sal_effects.proofs.Beginning.{begins}
-use Rattle.sal_effects.proofs.Changes.{Values, TargetOk, IsRead, IsReadPlace, IsSend, Law, sent, opened, closed}
+use Rattle.sal_effects.proofs.Changes.{Values, TargetOk, IsReadPlace, Law}
 use Rattle.sal_effects.proofs.Values.{Able}
-use Rattle.sal_effects.proofs.Handlers.{has_run, HasRun}
+use Rattle.sal_effects.proofs.Handlers.{has_run}
 use Rattle.sal_effects.proofs.Running.{FlowOk}
 
 -- ---- values

@@ -1,4 +1,5 @@
 pub mod Numbers
+pub mod Ranges
 pub mod Sizes
 pub mod Slots
 pub mod Spelled

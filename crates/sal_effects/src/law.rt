@@ -1,4 +1,5 @@
 ghost use Rattle.sal_effects.specs.Numbers.{HandlersNumberInOrder};
+ghost use Rattle.sal_effects.specs.Ranges.{HandlersKeepRanges, ProgramsBeginInRange};
 ghost use Rattle.sal_effects.specs.Sizes.{HandlersStaySmall};
 ghost use Rattle.sal_effects.specs.Slots.{HandlersServeSlots};
 ghost use Rattle.sal_effects.specs.Spelled.{HandlersSpellAll, ProgramsBeginLegally};
@@ -28,4 +29,14 @@ pub fn handlers_spell_all()
 /// The fields with which a program begins are legal.
 pub fn programs_begin_legally()
     ensures { ProgramsBeginLegally }
+{}
+
+/// Where the program's texts and the call are in range, so is what the handler leaves.
+pub fn handlers_keep_ranges()
+    ensures { HandlersKeepRanges }
+{}
+
+/// So is what a program begins with.
+pub fn programs_begin_in_range()
+    ensures { ProgramsBeginInRange }
 {}
