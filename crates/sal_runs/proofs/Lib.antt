@@ -1,3 +1,5 @@
+pub mod Invariants
+pub mod Open
+pub mod Sound
 pub mod Steps
 pub mod Telling
-pub mod Open

@@ -3,4 +3,7 @@
 
 mod law;
 
-pub use law::{open_joins_lack_values, steps_tell_more};
+pub use law::{
+    bound_names_are_served, given_names_are_actors, open_joins_lack_values, runs_stay_sound,
+    steps_tell_more,
+};

@@ -1,0 +1,15 @@
+pub mod Anything
+pub mod Beginning
+pub mod Changes
+pub mod Handlers
+pub mod InRange
+pub mod Ranging
+pub mod Rising
+pub mod Running
+pub mod Sending
+pub mod Serving
+pub mod Small
+pub mod Sorts
+pub mod Spelling
+pub mod Trees
+pub mod Values
