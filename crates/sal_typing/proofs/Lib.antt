@@ -6,3 +6,5 @@ pub mod ExpressionParts
 pub mod Messages
 pub mod Scopes
 pub mod Statements
+pub mod StatementParts
+pub mod Members

@@ -1,6 +1,7 @@
 //! Laws of typed programs.
 
-ghost use Rattle.sal_typing.specs.Laws.{ExpressionsHaveTheirSorts, MessagesHaveTheirSorts, StatementsKeepScopes, ChainsHaveTheirSorts, VoidJoinsAreVoid, ExpressionsHaveParts, MessagesHaveParts};
+ghost use Rattle.sal_typing.specs.Laws.{ExpressionsHaveTheirSorts, MessagesHaveTheirSorts, StatementsKeepScopes, ChainsHaveTheirSorts, VoidJoinsAreVoid, ExpressionsHaveParts, MessagesHaveParts, StatementsHaveParts, StagesHaveParts};
+ghost use Rattle.sal_typing.specs.Members.{ProgramsHaveParts};
 
 /// The type that the meaning reads off a typed expression is the checker's.
 pub fn expressions_have_their_sorts()
@@ -35,4 +36,19 @@ pub fn expressions_have_parts()
 /// Each part of a typed message is typed, and its target has the handler.
 pub fn messages_have_parts()
     ensures { MessagesHaveParts }
+{}
+
+/// Each part of a typed statement is typed, and fits the others.
+pub fn statements_have_parts()
+    ensures { StatementsHaveParts }
+{}
+
+/// So is each part of a typed stage.
+pub fn stages_have_parts()
+    ensures { StagesHaveParts }
+{}
+
+/// Each member of a typed program is typed, where what is known of such places is known.
+pub fn programs_have_parts()
+    ensures { ProgramsHaveParts }
 {}

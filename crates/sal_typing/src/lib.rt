@@ -5,5 +5,5 @@ mod law;
 
 pub use law::{
     chains_have_their_sorts, expressions_have_parts, expressions_have_their_sorts,
-    messages_have_parts, messages_have_their_sorts, statements_keep_scopes, void_joins_are_void,
+    messages_have_parts, messages_have_their_sorts, programs_have_parts, stages_have_parts, statements_have_parts, statements_keep_scopes, void_joins_are_void,
 };
