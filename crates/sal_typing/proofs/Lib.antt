@@ -8,3 +8,6 @@ pub mod Scopes
 pub mod Statements
 pub mod StatementParts
 pub mod Members
+pub mod Calls
+pub mod Places
+pub mod Fitting

@@ -1,11 +1,10 @@
 -- The members of a typed program.
-use Rattle.std.proofs.Common.{◌≡◌, inl, inr, ℕ, zero, suc, ◌+◌, ◌<◌, ◌≤◌, Bool, true, false, not, ◌||◌, cond, nat_lt, List, [], ◌∷◌, ◌++◌, append_assoc, length, map, filter_map, Option, Some, None, refl, sym, ap, subst, ◌∙◌, arith}
+use Rattle.std.proofs.Common.{◌≡◌, inl, ℕ, zero, suc, ◌+◌, ◌<◌, ◌≤◌, Bool, true, false, not, ◌||◌, cond, nat_lt, List, [], ◌∷◌, ◌++◌, append_assoc, length, map, filter_map, Option, Some, None, refl, sym, ap, subst, ◌∙◌, arith}
 use Rattle.std.specs.Prelude.{slice_get}
-use Rattle.std.specs.List.{list_any, find, position, position_or_len, cons_option}
+use Rattle.std.specs.List.{list_any, position, position_or_len, cons_option}
 use Rattle.std.specs.Str.{bytes_eq}
 use Rattle.std.proofs.lemmas.Bool.{not-true, ltb-true, lt-ltb}
 use Rattle.std.proofs.lemmas.List.{length-append, length-map}
-use Rattle.sal_value.specs.declared.constants.TheConstants.{RESERVED}
 use Rattle.sal_ast.specs.declared.program.Ident.{Ident}
 use Rattle.sal_ast.specs.declared.program.TypeName.{TypeName}
 use Rattle.sal_ast.specs.declared.program.Param.{Param}
@@ -23,23 +22,21 @@ use Rattle.sal_sorts.specs.declared.variable.Variable.{Variable}
 use Rattle.sal_sorts.specs.declared.variable.MemberKind.{MemberKind}
 use Rattle.sal_sorts.specs.declared.variable.MemberKind.TheVariants as kind
 use Rattle.sal_sorts.specs.Sorts.{plain, sort_of_type, sort_of_result}
-use Rattle.sal_sorts.specs.Environments.{Environment, member_environment, new_variable, with_variable, is_free, is_migrate}
+use Rattle.sal_sorts.specs.Environments.{Environment, member_environment, with_variable, is_free, is_migrate}
 use Rattle.sal_sorts.specs.Expressions.{type_verdict, expr_verdict_if}
-use Rattle.sal_sorts.specs.Verdicts.{Violation, Verdict, Good, ◌also◌, node, map_verdict, rule}
-use Rattle.sal_types.specs.Statements.{StmtTyping, no_results, free_rules, initial_rules, sequence_verdict, stmt_typing, stmt_typings}
+use Rattle.sal_sorts.specs.Verdicts.{Violation, Verdict, Good, ◌also◌}
+use Rattle.sal_types.specs.Statements.{no_results, free_rules, initial_rules, sequence_verdict, stmt_typings}
 use Rattle.sal_types.specs.Members.{count_rules, second_rules, is_among, param_typing, body_verdict, field_rules, field_verdict, constructor_name_rules, constructor_verdict, migrate_rules, end_rules, result_verdict, declared_handler_rules, handler_verdict, field_names, handler_names, member_verdict, members_verdict}
-use Rattle.sal_types.specs.Programs.{behavior_names, behavior_name_rules, behavior_verdict, behaviors_verdict, start_rules, program_verdict, violations_of, IsTyped}
-use Rattle.sal_types.specs.Signatures.{start_numbers}
+use Rattle.sal_types.specs.Programs.{behavior_names, behavior_name_rules, behavior_verdict, behaviors_verdict, start_rules, program_verdict, violations_of}
 use Rattle.sal_types.proofs.Start.{has_start}
-use Rattle.sal_typing.specs.Known.{Each, IsThere, IsKnownVariable, FieldIsKnown, HandlerIsKnown, MembersAreKnown, IsReplySort, IsKnown}
-use Rattle.sal_typing.specs.Parts.{IsWritten}
-use Rattle.sal_typing.specs.StatementParts.{SequenceParts, ValueParts}
-use Rattle.sal_typing.specs.Members.{with_params, BodyIsTyped, environment_of, FieldIsTyped, BehaviorIsTyped, ProgramIsTyped, ProgramsHaveParts}
+use Rattle.sal_typing.specs.Known.{Each, IsThere, FieldIsKnown, HandlerIsKnown, MembersAreKnown, IsReplySort, IsKnown}
+use Rattle.sal_typing.specs.StatementParts.{SequenceParts}
+use Rattle.sal_typing.specs.Members.{with_params, BodyIsTyped, FieldIsTyped, BehaviorIsTyped, ProgramsHaveParts}
 use Rattle.sal_typing.proofs.Inverting.{good_is, some_is, also_parts, node_parts, map_parts, rule_holds, none_left, none_right, none_in}
 use Rattle.sal_typing.proofs.Finding.{each_at, bytes_turn, bytes_are}
 use Rattle.sal_typing.proofs.Numbering.{number_valid, type_is_value, result_is_reply}
 use Rattle.sal_typing.proofs.Expressions.{type_parts}
-use Rattle.sal_typing.proofs.Scopes.{known_with, same_behaviors}
+use Rattle.sal_typing.proofs.Scopes.{known_with}
 use Rattle.sal_typing.proofs.StatementParts.{written_parts, value_parts, sequence_parts}
 
 -- ---- the first of a name
@@ -127,7 +124,7 @@ members_good behaviors own before (x ∷ ms) h =
     let both = also_parts (member_verdict behaviors own before x) (members_verdict behaviors own (before ++ x ∷ []) ms) p.0 p.1 in
     (record { before = before; good = both.left }, members_good behaviors own (before ++ x ∷ []) ms both.right)
 
-each_kept : {X Y : Type 0} (P : X → Type 0) (Q : Y → Type 0) (f : X → Option Y) → ((x : X) (y : Y) → P x → f x ≡ Some y → Q y) → (xs : List X) → Each P xs → Each Q (filter_map f xs)
+pub each_kept : {X Y : Type 0} (P : X → Type 0) (Q : Y → Type 0) (f : X → Option Y) → ((x : X) (y : Y) → P x → f x ≡ Some y → Q y) → (xs : List X) → Each P xs → Each Q (filter_map f xs)
 each_kept P Q f step [] h = tt
 each_kept {X} {Y} P Q f step (x ∷ xs) h = by (f x) refl (each_kept P Q f step xs h.1)
   where
@@ -243,7 +240,7 @@ module _ (behaviors : List Behavior) (own : List ℕ) where
   field_counted before (m.Field sort name init) y h e =
       let n = node_parts (type_verdict sort initial also expr_verdict_if init initial) (λ p. field_rules (field_names before) name ++ initial_rules init p.1 p.0 initial) (λ p. tt) tt h in
       let count = rule_holds 2 name.at (nat_lt (length (field_names before)) 64)
-        (none_left (count_rules 64 (length (field_names before)) name.at) (second_rules name.at (is_among name.text (field_names before))) (none_left (field_rules (field_names before) name) (initial_rules init n.part.1 n.part.0 initial) n.keeps)) in
+      (none_left (count_rules 64 (length (field_names before)) name.at) (second_rules name.at (is_among name.text (field_names before))) (none_left (field_rules (field_names before) name) (initial_rules init n.part.1 n.part.0 initial) n.keeps)) in
       let lt : length (field_names before) < 64 = ltb-true (length (field_names before)) 64 count in
       let same : length (field_names before) ≡ length (filter_map as_field before) = names_are (λ (f : Field). f.name) (filter_map as_field before) in
       omega (arith, lt, same)

@@ -62,7 +62,7 @@ prints_all env before (a ∷ list) (s ∷ t ∷ ss) p l h = absurd (omega arith)
 
 -- ---- messages to actors
 
-actor_base_parts : (env : Environment) (b : Base) → is_actor_base env b ≡ true → (name : List ℕ) × (b ≡ Actor name) × (has_behavior name env ≡ true)
+pub actor_base_parts : (env : Environment) (b : Base) → is_actor_base env b ≡ true → (name : List ℕ) × (b ≡ Actor name) × (has_behavior name env ≡ true)
 actor_base_parts env (Actor name) h = (name, refl, h)
 actor_base_parts env Int h = absurd cc
 actor_base_parts env Boolean h = absurd cc

@@ -1,5 +1,5 @@
 -- The parts of a typed statement and of a typed stage.
-use Rattle.std.proofs.Common.{◌≡◌, ℕ, suc, ◌<◌, ◌≤◌, Bool, true, false, not, ◌&&◌, ◌||◌, cond, nat_le, nat_lt, List, [], ◌∷◌, ◌++◌, length, map, Option, Some, None, option_map, refl, sym, ap, subst, ◌∙◌, rules}
+use Rattle.std.proofs.Common.{◌≡◌, ℕ, suc, ◌<◌, ◌≤◌, true, false, not, ◌&&◌, nat_le, nat_lt, List, [], ◌∷◌, ◌++◌, length, map, Option, Some, None, option_map, refl, sym, ap, subst, ◌∙◌, rules}
 use Rattle.std.specs.List.{list_all}
 use Rattle.std.proofs.lemmas.Bool.{and_parts, not-true, leb-true, ltb-true}
 use Rattle.sal_ast.specs.declared.program.TypeName.{TypeName}
@@ -16,19 +16,18 @@ use Rattle.sal_ast.specs.declared.statement.Stage.TheOpen.{Stage-F, Stmt-F}
 use Rattle.sal_ast.specs.declared.statement.Stage.TheFolds.{map-Stage, map-Stmt, fold-roll-Stage, fold-roll-Stmt}
 use Rattle.sal_sorts.specs.declared.sort.Base.TheVariants.{Int, Boolean, Void}
 use Rattle.sal_sorts.specs.declared.sort.Sort.{Sort}
-use Rattle.sal_sorts.specs.declared.variable.Variable.{Variable}
-use Rattle.sal_sorts.specs.Sorts.{is_same_sort, plain, is_int_sort, is_boolean_sort, is_void_sort, sort_below, array_sort, sort_of_type}
-use Rattle.sal_sorts.specs.Environments.{Environment, is_assignable, field_with_name, variable_with_name, is_free, with_variable}
+use Rattle.sal_sorts.specs.Sorts.{is_same_sort, plain, is_int_sort, is_boolean_sort, is_void_sort, sort_below, sort_of_type}
+use Rattle.sal_sorts.specs.Environments.{Environment, is_assignable, is_free}
 use Rattle.sal_sorts.specs.Starts.{expr_start}
-use Rattle.sal_sorts.specs.Expressions.{type_rules, type_verdict, variable_verdict, index_rules, verdict_of_exprs, expr_verdict, expr_verdicts, expr_verdict_if}
+use Rattle.sal_sorts.specs.Expressions.{type_rules, type_verdict, index_rules, verdict_of_exprs, expr_verdict, expr_verdicts, expr_verdict_if}
 use Rattle.sal_sorts.specs.Messages.{or_void}
-use Rattle.sal_sorts.specs.Verdicts.{Violation, Verdict, Good, ◌also◌, node, map_verdict, bind_verdict, rule}
+use Rattle.sal_sorts.specs.Verdicts.{Violation, Verdict, Good, ◌also◌, node}
 use Rattle.sal_types.specs.Statements as typing
 use Rattle.sal_types.specs.Statements.{StmtTyping, StageTyping, StageWithStart, no_results, statement_rules, free_rules, value_rules, initial_rules, condition_rules, loop_rules, leave_rules, declare_verdict, target_verdict, store_rules, assign_verdict, assignment_rules, sequence_verdict, else_verdict, for_init_typing, for_next_verdict, for_turn_verdict, fits_result, return_rules, fits_join, join_rules, join_environment, stages_verdict, chain_start, continuation_rules, stmt_typing, stage_typing, chain_typing}
 use Rattle.sal_types.proofs.StatementEquations.{typing-Stages}
 use Rattle.sal_typing.specs.Known.{Each}
-use Rattle.sal_typing.specs.Parts.{Pairwise, HasSort, HasSortIfAny, IsWritten}
-use Rattle.sal_typing.specs.StatementParts.{HasResults, after_stmt, SequenceParts, StageHasSort, StagesParts, ValueParts, DeclareParts, assigned_variable, AssignParts, NextParts, InitParts, after_init, ElseParts, ReturnParts, PassedParts, JoinParts, StmtParts, StageParts}
+use Rattle.sal_typing.specs.Parts.{Pairwise, HasSort, HasSortIfAny}
+use Rattle.sal_typing.specs.StatementParts.{after_stmt, SequenceParts, StagesParts, ValueParts, DeclareParts, assigned_variable, AssignParts, NextParts, InitParts, after_init, ElseParts, ReturnParts, PassedParts, JoinParts, StmtParts, StageParts}
 use Rattle.sal_typing.specs.Laws.{StatementsHaveParts, StagesHaveParts}
 use Rattle.sal_typing.proofs.Inverting.{good_is, also_parts, node_parts, unless_parts, map_parts, bind_parts, rule_holds, none_left, none_right}
 use Rattle.sal_typing.proofs.Expressions.{variable_parts}
@@ -118,20 +117,22 @@ assign_parts rules a env rs h =
     let pairs = exprs_parts a.indexes env n.part.0.1 two.right in
     let many = as_many (HasSort env) a.indexes n.part.0.1 pairs in
     let store = if_none (nat_le (length n.part.0.1) n.part.0.0.dims && list_all is_int_sort n.part.0.1) (value_rules a.value n.part.1 (sort_below n.part.0.0 (length n.part.0.1)) env) (index_rules a.name.at false)
-      (none_right rules (store_rules a n.part.0.0 n.part.0.1 n.part.1 env) n.keeps) (not_none _ []) in
+    (none_right rules (store_rules a n.part.0.0 n.part.0.1 n.part.1 env) n.keeps) (not_none _ []) in
     let fit = and_parts (nat_le (length n.part.0.1) n.part.0.0.dims) (list_all is_int_sort n.part.0.1) store.0 in
     let within : length n.part.0.1 ≤ n.part.0.0.dims = leb-true (length n.part.0.1) n.part.0.0.dims fit.0 in
-    let assignable = rule_holds 21 (expr_start a.value) (is_assignable env n.part.1 (sort_below n.part.0.0 (length n.part.0.1))) store.1 in
-    (record {
-      variable = v.0;
-      found = v.1;
-      no_token = v.2;
-      indexes = all_ints env a.indexes n.part.0.1 pairs fit.1;
-      levels = subst (λ k. k ≤ v.0.sort.dims) many (subst (λ (s : Sort). length n.part.0.1 ≤ s.dims) (sym v.3) within);
-      value = n.part.1;
-      typed = both.right;
-      fits = subst (λ k. is_assignable env n.part.1 (sort_below v.0.sort k) ≡ true) many (subst (λ (s : Sort). is_assignable env n.part.1 (sort_below s (length n.part.0.1)) ≡ true) (sym v.3) assignable);
-    }, n.is)
+    let assignable = rule_holds 21 (expr_start a.value) (is_assignable env n.part.1 (sort_below n.part.0.0 (length n.part.0.1))) store.1 in (
+      record {
+        variable = v.0;
+        found = v.1;
+        no_token = v.2;
+        indexes = all_ints env a.indexes n.part.0.1 pairs fit.1;
+        levels = subst (λ k. k ≤ v.0.sort.dims) many (subst (λ (s : Sort). length n.part.0.1 ≤ s.dims) (sym v.3) within);
+        value = n.part.1;
+        typed = both.right;
+        fits = subst (λ k. is_assignable env n.part.1 (sort_below v.0.sort k) ≡ true) many (subst (λ (s : Sort). is_assignable env n.part.1 (sort_below s (length n.part.0.1)) ≡ true) (sym v.3) assignable);
+      },
+      n.is,
+    )
 
 init_parts : (i : ForInit) (env : Environment) (rs : List Sort) → (for_init_typing i env).1 ≡ Good rs → InitParts i env
 init_parts init.Nothing env rs h = tt
@@ -177,7 +178,7 @@ join_parts (t ∷ ts) s f e =
 
 -- ---- each form
 
-abbrev typed_form : Stmt-F Stage Stmt Chain → StmtTyping
+abbrev pub typed_form : Stmt-F Stage Stmt Chain → StmtTyping
 typed_form z = typing.stmt_step (map-Stmt Stage Stmt Chain StageWithStart StmtTyping (List StageWithStart) stage_typing stmt_typing chain_typing z)
 
 if_parts : (at : ℕ) (test : Expr) (first : Stmt) (second : Option Stmt) (env : Environment) (rs : List Sort)
@@ -190,7 +191,7 @@ if_parts at test first second env rs h other =
     let front = also_parts (expr_verdict test env false) (stmt_typing first env).1 n.part.0 both.left in
     (n.part.0.1, n.part.1, test_parts env test n.part.0.0 front.left (none_right (statement_rules env at) (condition_rules test n.part.0.0) n.keeps), front.right, other n.part.1 both.right, n.is)
 
-form_parts : (z : Stmt-F Stage Stmt Chain) (env : Environment) (rs : List Sort) → (typed_form z env).1 ≡ Good rs → StmtParts z env rs
+pub form_parts : (z : Stmt-F Stage Stmt Chain) (env : Environment) (rs : List Sort) → (typed_form z env).1 ≡ Good rs → StmtParts z env rs
 form_parts (Stmt-F.Empty at) env rs h = good_is [] rs h
 form_parts (Stmt-F.Block at list) env rs h =
     let n = node_parts (sequence_verdict (map stmt_typing list) env) (λ ss. statement_rules env at) (λ ss. ss) rs h in
@@ -240,10 +241,10 @@ typing_is st = ap stmt_typing (sym (rolled_stmt st)) ∙ fold-roll-Stmt StageWit
 pub statements_have_parts : StatementsHaveParts
 statements_have_parts env st rs h = form_parts (out-Stmt st) env rs (ap (λ (m : StmtTyping). (m env).1) (sym (typing_is st)) ∙ h)
 
-abbrev typed_stage : Stage-F Stage Stmt Chain → StageWithStart
+abbrev pub typed_stage : Stage-F Stage Stmt Chain → StageWithStart
 typed_stage z = typing.stage_step (map-Stage Stage Stmt Chain StageWithStart StmtTyping (List StageWithStart) stage_typing stmt_typing chain_typing z)
 
-stage_form_parts : (z : Stage-F Stage Stmt Chain) (env : Environment) (before : Option Sort) (s : Sort) → (typed_stage z).1 env before ≡ Good s → StageParts z env before s
+pub stage_form_parts : (z : Stage-F Stage Stmt Chain) (env : Environment) (before : Option Sort) (s : Sort) → (typed_stage z).1 env before ≡ Good s → StageParts z env before s
 stage_form_parts (Stage-F.Message m) env before s h = h
 stage_form_parts (Stage-F.Join at body) env before s h =
     let n = node_parts (sequence_verdict (map stmt_typing body) (join_environment env)) (join_rules at) typing.join_sort s h in

@@ -5,3 +5,6 @@ pub mod Laws
 pub mod Parts
 pub mod Members
 pub mod StatementParts
+pub mod Calls
+pub mod Places
+pub mod Fitting

@@ -1,5 +1,5 @@
 -- What is known of the members of a typed program.
-use Rattle.std.specs.Prelude.{◌≡◌, ◌≤◌, ℕ, true, false, List, [], ◌∷◌, length, slice_get, Option, Some, None}
+use Rattle.std.specs.Prelude.{◌≡◌, ◌≤◌, ℕ, false, List, [], ◌∷◌, length, slice_get, Some}
 use Rattle.sal_ast.specs.declared.program.Param.{Param}
 use Rattle.sal_ast.specs.declared.program.Behavior.{Behavior}
 use Rattle.sal_ast.specs.declared.program.Program.{Program}

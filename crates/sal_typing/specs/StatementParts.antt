@@ -1,5 +1,5 @@
 -- What is known of the parts of a statement in which nothing is violated.
-use Rattle.std.specs.Prelude.{◌≡◌, ◌≤◌, ◌<◌, ℕ, Bool, true, false, if◌then◌else◌, List, [], ◌∷◌, ◌++◌, length, Option, Some, None}
+use Rattle.std.specs.Prelude.{◌≡◌, ◌≤◌, ◌<◌, ℕ, true, false, if◌then◌else◌, List, [], ◌∷◌, ◌++◌, length, Option, Some, None}
 use Rattle.sal_ast.specs.declared.expression.Expr.{Expr}
 use Rattle.sal_ast.specs.declared.statement.Declare.{Declare}
 use Rattle.sal_ast.specs.declared.statement.Assign.{Assign}

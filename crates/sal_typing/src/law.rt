@@ -1,7 +1,10 @@
 //! Laws of typed programs.
 
 ghost use Rattle.sal_typing.specs.Laws.{ExpressionsHaveTheirSorts, MessagesHaveTheirSorts, StatementsKeepScopes, ChainsHaveTheirSorts, VoidJoinsAreVoid, ExpressionsHaveParts, MessagesHaveParts, StatementsHaveParts, StagesHaveParts};
+ghost use Rattle.sal_typing.specs.Calls.{CallsHaveSignatures};
+ghost use Rattle.sal_typing.specs.Fitting.{AssignableTypesFit, ArgumentsFit, ConstructorsTakeArguments, OperandsHaveSorts};
 ghost use Rattle.sal_typing.specs.Members.{ProgramsHaveParts};
+ghost use Rattle.sal_typing.specs.Places.{StatementsAreTypedThere};
 
 /// The type that the meaning reads off a typed expression is the checker's.
 pub fn expressions_have_their_sorts()
@@ -51,4 +54,34 @@ pub fn stages_have_parts()
 /// Each member of a typed program is typed, where what is known of such places is known.
 pub fn programs_have_parts()
     ensures { ProgramsHaveParts }
+{}
+
+/// Wherever a statement of a typed program stands it is typed, and each name in scope stands for one thing.
+pub fn statements_are_typed_there()
+    ensures { StatementsAreTypedThere }
+{}
+
+/// In a typed program each call is one of a handler with a signature, which takes its arguments.
+pub fn calls_have_signatures()
+    ensures { CallsHaveSignatures }
+{}
+
+/// What is assignable is of the same type, or null for an actor.
+pub fn assignable_types_fit()
+    ensures { AssignableTypesFit }
+{}
+
+/// So are arguments, one for one.
+pub fn arguments_fit()
+    ensures { ArgumentsFit }
+{}
+
+/// What a behaviour's constructor accepts fits its parameters.
+pub fn constructors_take_arguments()
+    ensures { ConstructorsTakeArguments }
+{}
+
+/// The operands that an operator takes, and what it gives.
+pub fn operands_have_sorts()
+    ensures { OperandsHaveSorts }
 {}
