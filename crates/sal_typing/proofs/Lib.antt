@@ -6,3 +6,8 @@ pub mod ExpressionParts
 pub mod Messages
 pub mod Scopes
 pub mod Statements
+pub mod StatementParts
+pub mod Members
+pub mod Calls
+pub mod Places
+pub mod Fitting

@@ -35,11 +35,11 @@ use Rattle.sal_typing.proofs.Expressions.{behavior_numbered, expr_agrees}
 
 -- ---- rules
 
-if_none : (b : Bool) (xs ys : List Violation) → cond b xs ys ≡ [] → (ys ≡ [] → ⊥) → (b ≡ true) × (xs ≡ [])
+pub if_none : (b : Bool) (xs ys : List Violation) → cond b xs ys ≡ [] → (ys ≡ [] → ⊥) → (b ≡ true) × (xs ≡ [])
 if_none true xs ys h other = (refl, h)
 if_none false xs ys h other = absurd (other h)
 
-not_none : (v : Violation) (vs : List Violation) → v ∷ vs ≡ [] → ⊥
+pub not_none : (v : Violation) (vs : List Violation) → v ∷ vs ≡ [] → ⊥
 not_none v vs h = absurd cc
 
 fits_all : (env : Environment) (before : Option Sort) (list : List Arg) (ss ts : List Sort) → Pairwise (ArgHasSort env before) list ss → length ts ≡ length ss → first_misfit_rules env list ss ts ≡ [] → are_assignable env ss ts ≡ true
@@ -62,7 +62,7 @@ prints_all env before (a ∷ list) (s ∷ t ∷ ss) p l h = absurd (omega arith)
 
 -- ---- messages to actors
 
-actor_base_parts : (env : Environment) (b : Base) → is_actor_base env b ≡ true → (name : List ℕ) × (b ≡ Actor name) × (has_behavior name env ≡ true)
+pub actor_base_parts : (env : Environment) (b : Base) → is_actor_base env b ≡ true → (name : List ℕ) × (b ≡ Actor name) × (has_behavior name env ≡ true)
 actor_base_parts env (Actor name) h = (name, refl, h)
 actor_base_parts env Int h = absurd cc
 actor_base_parts env Boolean h = absurd cc

@@ -79,7 +79,7 @@ actor_is_value name n behaviors e = record { number = record { base = meant.Acto
 
 -- ---- behaviours by their names
 
-number_valid : (n : ℕ) → n < 64 → valid_number (Some n) ≡ Some n
+pub number_valid : (n : ℕ) → n < 64 → valid_number (Some n) ≡ Some n
 number_valid n h = let small : n < RESERVED = omega arith in ap (λ b. cond b (Some n) None) (lt-ltb n RESERVED small)
 
 -- a behaviour and its number

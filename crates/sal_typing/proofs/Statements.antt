@@ -293,6 +293,15 @@ for_alike at i test next body more env mine h r rs g =
     let same : q.0.1 ≡ rs = ap (λ (p : Option Sort × List Sort). p.1) q.2 ∙ n.is in
     stays_agree env mine h rs _ (results_as env.behaviors q.0.1 rs _ same whole)
 
+-- what is known after the first part of a typed `for`
+pub init_stays : (at : ℕ) (i : ForInit) (test : Option Expr) (next : Option Assign) (body : Stmt) (env : Environment) (mine : ℕ) → IsKnown env mine → (rs : List Sort)
+    → (typing.stmt_step (Stmt-F.For at i test next (stmt_typing body)) env).1 ≡ Good rs → IsKnown (with_variable env (for_init_typing i env).0) mine
+init_stays at i test next body env mine h rs g =
+    let turn : Verdict (Option Sort × List Sort) = for_turn_verdict test next (stmt_typing body) (with_variable env (for_init_typing i env).0) in
+    let n = node_parts ((for_init_typing i env).1 also turn) (λ p. statement_rules env at ++ loop_rules test p.1.0) (λ p. p.1.1) rs g in
+    let both = also_parts (for_init_typing i env).1 turn n.part n.typed in
+    (init_agrees i env mine h n.part.0 both.left).after
+
 if_alike : (at : ℕ) (test : Expr) (first : Stmt) → PT first → Alike (stmt_typed (Stmt-F.If at test first None)) (stmt_formed (Stmt-F.If at test first None)) (stmt_changed (Stmt-F.If at test first None))
 if_alike at test first f env mine h r rs g =
     let whole : Verdict (Sort × List Sort) = expr_verdict test env false also (stmt_typing first env).1 in

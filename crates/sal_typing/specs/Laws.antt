@@ -2,7 +2,8 @@
 use Rattle.std.specs.Prelude.{◌≡◌, ◌≤◌, ℕ, Bool, true, List, length, Option, None}
 use Rattle.sal_ast.specs.declared.expression.Expr.{Expr, out-Expr}
 use Rattle.sal_ast.specs.declared.statement.Send.{Send}
-use Rattle.sal_ast.specs.declared.statement.Stmt.{Stmt}
+use Rattle.sal_ast.specs.declared.statement.Stmt.{Stmt, out-Stmt}
+use Rattle.sal_ast.specs.declared.statement.Stage.{Stage, out-Stage}
 use Rattle.sal_ast.specs.declared.statement.Chain.{Chain}
 use Rattle.sal_ast.specs.Regular.{form_of, chain_is_regular, block_is_regular}
 use Rattle.sal_ast.specs.Sorts.{sort_of, message_result, scope_change, result_of, is_void_join}
@@ -17,6 +18,7 @@ use Rattle.sal_typing.specs.Numbers.{number_sort, scope_of}
 use Rattle.sal_typing.specs.Known.{IsReplySort, IsExprSort, IsKnown}
 use Rattle.sal_typing.specs.Agreement.{ScopesAgree}
 use Rattle.sal_typing.specs.Parts.{ExprParts, MessageParts}
+use Rattle.sal_typing.specs.StatementParts.{HasResults, StmtParts, StageHasSort, StageParts}
 
 -- ---- the types that the meaning reads off the text
 
@@ -63,3 +65,11 @@ abbrev pub MessagesHaveParts : Type 0
 MessagesHaveParts =
     (env : Environment) → length env.behaviors ≤ 64 → (m : Send) (before : Option Sort) (s : Sort) → message_verdict m env before ≡ Good s
     → MessageParts env before m s
+
+-- Each part of a typed statement is typed, and fits the others.
+abbrev pub StatementsHaveParts : Type 0
+StatementsHaveParts = (env : Environment) (st : Stmt) (results : List Sort) → HasResults env st results → StmtParts (out-Stmt st) env results
+
+-- So is each part of a typed stage.
+abbrev pub StagesHaveParts : Type 0
+StagesHaveParts = (env : Environment) (before : Option Sort) (g : Stage) (s : Sort) → StageHasSort env before g s → StageParts (out-Stage g) env before s

@@ -3,3 +3,8 @@ pub mod Known
 pub mod Agreement
 pub mod Laws
 pub mod Parts
+pub mod Members
+pub mod StatementParts
+pub mod Calls
+pub mod Places
+pub mod Fitting

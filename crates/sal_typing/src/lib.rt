@@ -4,6 +4,9 @@
 mod law;
 
 pub use law::{
-    chains_have_their_sorts, expressions_have_parts, expressions_have_their_sorts,
-    messages_have_parts, messages_have_their_sorts, statements_keep_scopes, void_joins_are_void,
+    arguments_fit, assignable_types_fit, calls_have_signatures, chains_have_their_sorts,
+    constructors_take_arguments, expressions_have_parts, expressions_have_their_sorts,
+    messages_have_parts, messages_have_their_sorts, operands_have_sorts, programs_have_parts,
+    stages_have_parts, statements_are_typed_there, statements_have_parts, statements_keep_scopes,
+    void_joins_are_void,
 };
