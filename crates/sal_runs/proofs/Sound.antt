@@ -62,7 +62,7 @@ no_invariant p setup = record {
   given = λ gs c h. tt;
   printed = λ text c h. tt;
   unmade = λ maker serial c h. tt;
-  bound = λ maker serial x c f q h. tt;
+  bound = λ maker serial x c k f q g h. tt;
   posted = λ number to behavior handler args c q h. tt;
 }
 
@@ -92,10 +92,10 @@ module _ (p : Program) (c : Configuration) (maker : Name) (serial : ℕ) (m : Me
   anonymous : list_all s.is_anonymous fresh ≡ true
   anonymous = fresh_anonymous c.given fresh (split (list_all (s.is_new c.given) fresh) (s.are_different fresh) fits_parts.1).0
 
-  old : IsOldReply a.0.name a.1 m.reply
+  pub old : IsOldReply a.0.name a.1 m.reply
   old = old_reply c.actors c.posted a k.actor k.keyed.actor m.reply (k.kept.waits.messages.at (made_key maker serial) m k.pending).owed
 
-  order : IsOrderly (program_sizes p) (s.call_of m a fresh) e
+  pub order : IsOrderly (program_sizes p) (s.call_of m a fresh) e
   order = handlers_orderly p (s.call_of m a fresh) e old k.did
 
   new_anonymous : EachOf (λ (x : Actor). s.is_anonymous x.name ≡ true) e.actors
@@ -134,7 +134,7 @@ module _ (setup : Setup) where
     given = λ gs c h. h;
     printed = λ text c h. h;
     unmade = λ maker serial c h. h;
-    bound = λ maker serial x c f q h.
+    bound = λ maker serial x c k f q g h.
         each_written (λ key (x : Actor × ℕ). Served x.0) c.actors (name_key (name.Uan x.1.name)) (Some (s.bound_actor x.1, 0)) h
         (λ y is. let same : (s.bound_actor x.1, 0) ≡ y = some_is is in subst (λ (z : Actor × ℕ). Served z.0) same q);
     posted = λ number to behavior handler args c q h. h;
@@ -415,7 +415,7 @@ sounding p setup = record {
   given = λ gs c h. record { actors = h.actors; creations = h.creations; waits = settle_sound (settle_bound gs c.waiting) gs c.waiting h.waits; answers = each_append AnswerIsSound c.answers (settle_all_answers gs c.waiting) h.answers (answers_sound (settle_bound gs c.waiting) gs c.waiting) };
   printed = λ text c h. same_sound c (s.add_output text c) refl refl refl refl h;
   unmade = unmade_sound;
-  bound = λ maker serial x c f q h. bound_sound maker serial x c f h;
+  bound = λ maker serial x c k f q g h. bound_sound maker serial x c f h;
   posted = posted_sound;
 }
 
