@@ -1,5 +1,5 @@
 -- What each change that a step of a program's run makes keeps, all configurations of its runs keep.
-use Rattle.std.proofs.Common.{◌≡◌, inl, inr, ℕ, ◌≤◌, Bool, true, false, cond, not, ◌&&◌, ◌||◌, List, [], ◌∷◌, Option, Some, None, is_some, refl, sym, ap, subst, ◌∙◌, arith}
+use Rattle.std.proofs.Common.{◌≡◌, inl, inr, ℕ, Bool, true, false, cond, not, ◌&&◌, ◌||◌, List, [], ◌∷◌, Option, Some, None, is_some, refl, sym, ap, subst, ◌∙◌, arith}
 use Rattle.std.specs.Prelude.{if◌then◌else◌, option_and_then}
 use Rattle.std.specs.FinMap as fm
 use Rattle.std.specs.FinSet as fs
@@ -18,7 +18,6 @@ use Rattle.sal_mail.specs.declared.effects.Effects.{Effects}
 use Rattle.sal_mail.specs.declared.fault.FaultKind.{FaultKind}
 use Rattle.sal_mail.specs.declared.fault.FaultKind.TheVariants.{Trap as Trapped, NoHandler, NameTaken}
 use Rattle.sal_mail.specs.Message.{is_ready}
-use Rattle.sal_handler.specs.Calls.{Meaning}
 use Rattle.sal_handler.specs.Fits.{meaning_of}
 use Rattle.sal_handler.specs.Handler.{handle}
 use Rattle.sal_handler.specs.WellFormed.{program_sizes}

@@ -1,3 +1,4 @@
+pub mod Gives
 pub mod Invariants
 pub mod Open
 pub mod Owed

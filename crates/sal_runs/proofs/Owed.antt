@@ -1,10 +1,10 @@
 -- Each address is owed once.
-use Rattle.std.proofs.Common.{◌≡◌, ◌≢◌, ◌⊎◌, inl, inr, ℕ, zero, suc, ◌+◌, ◌≤◌, ◌<◌, Bool, true, false, cond, not, ◌&&◌, List, [], ◌∷◌, ◌++◌, length, map, Option, Some, None, refl, sym, ap, subst, ◌∙◌, arith}
+use Rattle.std.proofs.Common.{◌≡◌, ◌≢◌, ◌⊎◌, inl, inr, ℕ, zero, suc, ◌+◌, ◌≤◌, ◌<◌, Bool, true, false, cond, not, ◌&&◌, List, [], ◌∷◌, ◌++◌, map, Some, None, refl, sym, ap, subst, ◌∙◌, arith}
 use Rattle.std.specs.Prelude.{if◌then◌else◌, nat_eq, nat_le, nat_lt}
 use Rattle.std.specs.List.{list_all}
 use Rattle.std.specs.FinMap as fm
 use Rattle.std.specs.FinSet as fs
-use Rattle.std.proofs.lemmas.Bool.{ltb-true, le-leb, leb-true, lt-leb}
+use Rattle.std.proofs.lemmas.Bool.{ltb-true, le-leb, leb-true}
 use Rattle.sal_value.specs.declared.name.Name.{Name}
 use Rattle.sal_value.specs.declared.name.Name.TheVariants as name
 use Rattle.sal_value.specs.declared.name.Uan.{Uan}
@@ -19,7 +19,7 @@ use Rattle.sal_mail.specs.declared.message.Join.{Join}
 use Rattle.sal_mail.specs.declared.effects.Actor.{Actor}
 use Rattle.sal_mail.specs.declared.effects.Creation.{Creation}
 use Rattle.sal_mail.specs.declared.effects.Effects.{Effects}
-use Rattle.sal_mail.specs.Message.{with_reply, is_full, join_value}
+use Rattle.sal_mail.specs.Message.{with_reply, is_full}
 use Rattle.sal_mail.specs.ReplyKeys.{reply_key, owes}
 use Rattle.sal_handler.specs.Fits.{meaning_of}
 use Rattle.sal_handler.specs.declared.turn.Began.{Began}
@@ -28,24 +28,23 @@ use Rattle.sal_handler.specs.WellFormed.{EachOf, IsWithin, IsNewReply, IsAllowed
 use Rattle.sal_handler.specs.WellFormed as f
 use Rattle.sal_handler.proofs.Addresses.{owes_most, owes_by, owes_apart, some_address, token_token, token_place, place_place}
 use Rattle.sal_source.specs.declared.state.Setup.{Setup}
-use Rattle.sal_source.specs.declared.state.Step.{Step}
 use Rattle.sal_source.specs.Table.{TableKey, key_cmp, key_eq, Table, write, table_map, table_of, total, sum_values}
 use Rattle.sal_source.specs.Keys.{name_key, made_key, message_key}
 use Rattle.sal_source.specs.Configuration.{Waiting, Configuration, first_by, act_message}
 use Rattle.sal_source.specs.Give.{DueReply, resolve, give_to, give_one, replies_if_legal, settle, settle_bound}
-use Rattle.sal_source.specs.Laws.{times_owed, IsOwedOnce}
+use Rattle.sal_source.specs.Laws.{times_owed}
 use Rattle.sal_source.specs.Once.{one_if, next_serial_of, next_serial}
 use Rattle.sal_source.specs.Posts.{fits_post, may_be_posted, post_message}
 use Rattle.sal_source.specs.Step as s
 use Rattle.sal_source.proofs.Commute.{len-weigh, join_falls, owes_own}
 use Rattle.sal_source.proofs.Given.{contains_keys}
 use Rattle.sal_source.proofs.Installing.{before_me, after_me, goes_installed}
-use Rattle.sal_source.proofs.Keeping.{KeptIn, IsKeyed, Grows, kept_without, split, none_number, number_there, number_here}
+use Rattle.sal_source.proofs.Keeping.{KeptIn, Grows, kept_without, split, none_number, number_there}
 use Rattle.sal_source.proofs.Tables.{words_tells, values-table_of}
 use Rattle.sal_source.proofs.Weights.{weigh-map, weigh-write, weight_of}
 use Rattle.sal_runs.specs.Owed.{RunsOweOnce}
 use Rattle.sal_runs.proofs.Invariants.{IsHandled, Invariant, plays}
-use Rattle.sal_runs.proofs.Sound.{order, old}
+use Rattle.sal_runs.proofs.Sound.{order}
 
 -- ---- sums
 

@@ -1,5 +1,5 @@
 -- Configurations of runs are sound.
-use Rattle.std.proofs.Common.{◌≡◌, inl, inr, ℕ, zero, suc, ◌+◌, Bool, true, false, cond, not, ◌&&◌, List, [], ◌∷◌, ◌++◌, length, map, Option, Some, None, refl, sym, ap, subst, ◌∙◌, arith}
+use Rattle.std.proofs.Common.{◌≡◌, ℕ, zero, suc, Bool, true, false, cond, not, ◌&&◌, List, [], ◌∷◌, ◌++◌, length, map, Option, Some, None, refl, sym, subst}
 use Rattle.std.specs.Prelude.{if◌then◌else◌, nat_eq, nat_lt, filter_map}
 use Rattle.std.specs.List.{list_all}
 use Rattle.std.specs.FinMap as fm
@@ -23,33 +23,31 @@ use Rattle.sal_mail.specs.declared.message.Join.{Join}
 use Rattle.sal_mail.specs.declared.effects.Actor.{Actor}
 use Rattle.sal_mail.specs.declared.effects.Creation.{Creation}
 use Rattle.sal_mail.specs.declared.effects.Effects.{Effects}
-use Rattle.sal_mail.specs.Message.{with_reply, piece_with_reply, known_value, known_values, without_delay, fill_slot, with_slot, is_full}
+use Rattle.sal_mail.specs.Message.{with_reply, piece_with_reply, known_value, without_delay, fill_slot, with_slot, is_full}
 use Rattle.sal_envelope.specs.Spelling.{reply_is_spelled}
-use Rattle.sal_handler.specs.Calls.{Call}
 use Rattle.sal_handler.specs.Fits.{meaning_of}
 use Rattle.sal_handler.specs.Handler.{begin}
 use Rattle.sal_handler.specs.declared.turn.Began.{Began}
 use Rattle.sal_handler.specs.declared.turn.Began.TheVariants as began
-use Rattle.sal_handler.specs.WellFormed.{EachOf, Legal, IsLegalPiece, IsOldReply, IsSoundCall, IsWellFormed, IsOrderly, HaveFreshNames, program_sizes}
+use Rattle.sal_handler.specs.WellFormed.{EachOf, Legal, IsLegalPiece, IsOldReply, IsSoundCall, IsWellFormed, IsOrderly, program_sizes}
 use Rattle.sal_handler.proofs.Addresses.{each_append, each_more}
 use Rattle.sal_handler.proofs.FairCalls.{handlers_orderly, handlers_fair}
 use Rattle.sal_effects.specs.Slots.{IsEmpty, ServesSlots}
-use Rattle.sal_effects.specs.Spelled.{TargetIsSpelled, IsLocator, MessageIsSpelled, IsSpelled}
+use Rattle.sal_effects.specs.Spelled.{IsLocator, MessageIsSpelled, IsSpelled}
 use Rattle.sal_effects.proofs.Serving.{serve_slots}
 use Rattle.sal_effects.proofs.Spelling.{spell_all, begin_legally}
 use Rattle.sal_source.specs.declared.state.Setup.{Setup}
-use Rattle.sal_source.specs.declared.state.Step.{Step}
-use Rattle.sal_source.specs.Table.{TableKey, key_eq, Table, write, table_map}
+use Rattle.sal_source.specs.Table.{TableKey, key_eq, Table}
 use Rattle.sal_source.specs.Keys.{name_key, made_key, message_key, actor_key}
 use Rattle.sal_source.specs.Configuration.{Waiting, Configuration, first_by, start_actor, act_message}
-use Rattle.sal_source.specs.Give.{DueReply, resolve, owned_join_with_slot, join_after_value, give_to, give_one, outside_answers, replies_if_legal, answers_if_legal, settle, settle_answers, settle_bound, settle_all, settle_all_answers, give_all}
+use Rattle.sal_source.specs.Give.{DueReply, resolve, owned_join_with_slot, join_after_value, give_to, give_one, outside_answers, replies_if_legal, answers_if_legal, settle, settle_answers, settle_bound, settle_all_answers}
 use Rattle.sal_source.specs.Posts.{fits_post, may_be_posted, holds_universal, post_message}
 use Rattle.sal_source.specs.Step as s
 use Rattle.sal_source.proofs.Installing.{old_reply}
-use Rattle.sal_source.proofs.Keeping.{KeptIn, IsKeyed, anonymous_actor, named, split}
+use Rattle.sal_source.proofs.Keeping.{named, split}
 use Rattle.sal_source.proofs.Once.{Each, each_written, each_mapped, each_none}
-use Rattle.sal_runs.specs.Sound.{EachIn, NamesAreActors, GivenNamesAreActors, IsServed, BoundNamesAreServed, ActorIsSound, MessageIsSound, SlotIsSound, JoinIsSound, CreationIsSound, IsSound, RunsStaySound}
-use Rattle.sal_runs.proofs.Invariants.{IsHandled, Invariant, Holds, plays, each_of_one}
+use Rattle.sal_runs.specs.Sound.{GivenNamesAreActors, IsServed, BoundNamesAreServed, ActorIsSound, MessageIsSound, SlotIsSound, JoinIsSound, CreationIsSound, RunsStaySound}
+use Rattle.sal_runs.proofs.Invariants.{IsHandled, Invariant, plays, each_of_one}
 use Rattle.sal_runs.proofs.Steps.{some_is}
 
 -- ---- names that are given

@@ -1,5 +1,6 @@
 //! Laws of runs: functions without work, whose contracts are the laws.
 
+ghost use Rattle.sal_runs.specs.Gives.{JoinsGiveOnce};
 ghost use Rattle.sal_runs.specs.Kept.{OpenJoinsLackValues, StepsTellMore};
 ghost use Rattle.sal_runs.specs.Owed.{RunsOweOnce};
 ghost use Rattle.sal_runs.specs.Sound.{BoundNamesAreServed, GivenNamesAreActors, RunsStaySound};
@@ -32,4 +33,9 @@ pub fn runs_stay_sound()
 /// To each address at most one reply is owed by what waits.
 pub fn runs_owe_once()
     ensures { RunsOweOnce }
+{}
+
+/// No join gives its array twice in a run.
+pub fn joins_give_once()
+    ensures { JoinsGiveOnce }
 {}
