@@ -1,5 +1,5 @@
 -- Joins give once.
-use Rattle.std.proofs.Common.{◌≡◌, ◌⊎◌, inl, inr, ℕ, zero, suc, ◌+◌, ◌≤◌, ◌<◌, Bool, true, false, cond, not, ◌&&◌, List, [], ◌∷◌, ◌++◌, length, Option, Some, None, is_some, refl, ap, subst, ◌∙◌, arith}
+use Rattle.std.proofs.Common.{◌≡◌, ◌⊎◌, inl, inr, ℕ, zero, suc, ◌+◌, ◌≤◌, ◌<◌, Bool, true, false, cond, not, ◌&&◌, List, [], ◌∷◌, ◌++◌, length, Option, Some, None, is_some, refl, sym, ap, subst, ◌∙◌, arith}
 use Rattle.std.specs.Prelude.{if◌then◌else◌, nat_lt, option_and_then}
 use Rattle.std.specs.FinMap as fm
 use Rattle.std.proofs.lemmas.Bool.{ltb-true, ltb-false}
@@ -40,9 +40,9 @@ use Rattle.sal_source.proofs.Installing.{before_me, after_me}
 use Rattle.sal_source.proofs.Keeping.{KeptIn, IsKeyed, same_made, kept_without, number_same, there_is}
 use Rattle.sal_source.proofs.Stepping.{one_step}
 use Rattle.sal_source.proofs.Tables.{get-write, words_tells}
-use Rattle.sal_runs.specs.Gives.{join_gives, gives_if_legal, settle_gives, all_give, opened_gives, outcome_gives, actor_gives, handled_gives, printed_gives, step_gives, run_gives, JoinsGiveOnce}
-use Rattle.sal_runs.proofs.Invariants.{IsHandled, kept_first}
-use Rattle.sal_runs.proofs.Sound.{order}
+use Rattle.sal_runs.specs.Gives.{join_gives, gives_if_legal, settle_gives, all_give, opened_gives, outcome_gives, actor_gives, handled_gives, printed_gives, step_gives, run_gives, JoinsGiveOnce, JoinsGiveAsTheyLeave}
+use Rattle.sal_runs.proofs.Invariants.{IsHandled, kept_first, plays}
+use Rattle.sal_runs.proofs.Sound.{no_invariant, order}
 use Rattle.sal_runs.proofs.Steps.{some_is}
 
 abbrev Joins : Type 0
@@ -58,50 +58,50 @@ open_written k b o t = ap (λ x. one_if (is_some x)) (get-write t b o k)
 -- ---- giving
 
 module _ (k : TableKey) where
-  -- at the join that a slot belongs to
-  slot_least : (b : TableKey) (i : ℕ) (v : Value) (t : Joins)
-      → (if key_eq k b then length (join_replies i v (fm.get t b)) else 0) + open_at k (write t b (join_after_value i v (fm.get t b))) ≤ open_at k t
-  slot_least b i v t = elim (words_tells k b) [ inl a ↦ same a.0 a.1 | inr a ↦ other a.0 ]
+  -- at the join that a slot belongs to: what is given leaves
+  slot_same : (b : TableKey) (i : ℕ) (v : Value) (t : Joins)
+      → (if key_eq k b then length (join_replies i v (fm.get t b)) else 0) + open_at k (write t b (join_after_value i v (fm.get t b))) ≡ open_at k t
+  slot_same b i v t = elim (words_tells k b) [ inl a ↦ same a.0 a.1 | inr a ↦ other a.0 ]
     where
-      filled : (o : Option (Name × Join)) → length (join_replies i v o) + one_if (is_some (join_after_value i v o)) ≤ one_if (is_some o)
+      filled : (o : Option (Name × Join)) → length (join_replies i v o) + one_if (is_some (join_after_value i v o)) ≡ one_if (is_some o)
       filled None = omega arith
       filled (Some j) = at (is_full (with_slot i v j.1))
         where
-          at : (c : Bool) → length {A = Reply × Value} (cond c (((with_slot i v j.1).reply, join_value (with_slot i v j.1)) ∷ []) []) + one_if (is_some (cond c None (Some (owned_join_with_slot i v j)))) ≤ 1
+          at : (c : Bool) → length {A = Reply × Value} (cond c (((with_slot i v j.1).reply, join_value (with_slot i v j.1)) ∷ []) []) + one_if (is_some (cond c None (Some (owned_join_with_slot i v j)))) ≡ 1
           at true = omega arith
           at false = omega arith
 
-      same : key_eq k b ≡ true → k ≡ b → (if key_eq k b then length (join_replies i v (fm.get t b)) else 0) + open_at k (write t b (join_after_value i v (fm.get t b))) ≤ open_at k t
+      same : key_eq k b ≡ true → k ≡ b → (if key_eq k b then length (join_replies i v (fm.get t b)) else 0) + open_at k (write t b (join_after_value i v (fm.get t b))) ≡ open_at k t
       same e is =
           let first : (if key_eq k b then length (join_replies i v (fm.get t b)) else 0) ≡ length (join_replies i v (fm.get t b)) = ap (λ c. if c then length (join_replies i v (fm.get t b)) else 0) e in
           let second : open_at k (write t b (join_after_value i v (fm.get t b))) ≡ one_if (is_some (join_after_value i v (fm.get t b))) = open_written k b (join_after_value i v (fm.get t b)) t ∙ ap (λ c. one_if (is_some (cond c (join_after_value i v (fm.get t b)) (fm.get t k)))) e in
           let third : open_at k t ≡ one_if (is_some (fm.get t b)) = ap (λ q. one_if (is_some (fm.get t q))) is in
           omega (arith, first, second, third, filled (fm.get t b))
 
-      other : key_eq k b ≡ false → (if key_eq k b then length (join_replies i v (fm.get t b)) else 0) + open_at k (write t b (join_after_value i v (fm.get t b))) ≤ open_at k t
+      other : key_eq k b ≡ false → (if key_eq k b then length (join_replies i v (fm.get t b)) else 0) + open_at k (write t b (join_after_value i v (fm.get t b))) ≡ open_at k t
       other e =
           let first : ◌≡◌ {A = ℕ} (if key_eq k b then length (join_replies i v (fm.get t b)) else 0) 0 = ap (λ c. if c then length (join_replies i v (fm.get t b)) else 0) e in
           let second : open_at k (write t b (join_after_value i v (fm.get t b))) ≡ open_at k t = open_written k b (join_after_value i v (fm.get t b)) t ∙ ap (λ c. one_if (is_some (cond c (join_after_value i v (fm.get t b)) (fm.get t k)))) e in
           omega (arith, first, second)
 
-  given_least : (r : Reply) (v : Value) (w : Waiting) → join_gives k r v w + open_at k (give_to r v w).joins ≤ open_at k w.joins
-  given_least Nobody v w = omega arith
-  given_least (Outside n) v w = omega arith
-  given_least (Tok o n) v w = omega arith
-  given_least (Place o j i) v w = slot_least (made_key o j) i v w.joins
+  given_same : (r : Reply) (v : Value) (w : Waiting) → join_gives k r v w + open_at k (give_to r v w).joins ≡ open_at k w.joins
+  given_same Nobody v w = omega arith
+  given_same (Outside n) v w = omega arith
+  given_same (Tok o n) v w = omega arith
+  given_same (Place o j i) v w = slot_same (made_key o j) i v w.joins
 
-  one_least : (g : DueReply) (w : Waiting) → gives_if_legal k g w + open_at k (give_one g w).joins ≤ open_at k w.joins
-  one_least g w = at (is_legal g.1)
+  one_same : (g : DueReply) (w : Waiting) → gives_if_legal k g w + open_at k (give_one g w).joins ≡ open_at k w.joins
+  one_same g w = at (is_legal g.1)
     where
-      at : (b : Bool) → cond b (join_gives k g.0 g.1 w) 0 + open_at k (cond b (give_to g.0 g.1 w) w).joins ≤ open_at k w.joins
-      at true = given_least g.0 g.1 w
+      at : (b : Bool) → cond b (join_gives k g.0 g.1 w) 0 + open_at k (cond b (give_to g.0 g.1 w) w).joins ≡ open_at k w.joins
+      at true = given_same g.0 g.1 w
       at false = omega arith
 
-  settle_least : (n : ℕ) (gs : List DueReply) (w : Waiting) → settle_gives k n gs w + open_at k (settle n gs w).joins ≤ open_at k w.joins
+  settle_same : (n : ℕ) (gs : List DueReply) (w : Waiting) → settle_gives k n gs w + open_at k (settle n gs w).joins ≡ open_at k w.joins
   unfolding settle settle_gives
-  settle_least zero gs w = omega arith
-  settle_least (suc n) [] w = omega arith
-  settle_least (suc n) (g ∷ gs) w = omega (arith, settle_least n (replies_if_legal g w ++ gs) (give_one g w), one_least g w)
+  settle_same zero gs w = omega arith
+  settle_same (suc n) [] w = omega arith
+  settle_same (suc n) (g ∷ gs) w = omega (arith, settle_same n (replies_if_legal g w ++ gs) (give_one g w), one_same g w)
 
   -- ---- opening
 
@@ -121,6 +121,19 @@ module _ (k : TableKey) where
           → (one_if (b && key_eq k (made_key maker j.number)) + opened_gives k maker js) + open_at k (if b then s.put_joins maker js t else s.put_join maker j (s.put_joins maker js t)) ≤ open_at k t + (one_if (key_eq k (made_key maker j.number)) + made maker js)
       at true rest = omega (arith, rest)
       at false rest = omega (arith, rest, open_written k (made_key maker j.number) (Some (maker, j)) (s.put_joins maker js t), more (key_eq k (made_key maker j.number)) (fm.get (s.put_joins maker js t) k))
+
+  -- where none of them has it, none gives and none is open there
+  opened_same : (maker : Name) (js : List Join) (t : Joins) → made maker js ≡ 0 → opened_gives k maker js + open_at k (s.put_joins maker js t) ≡ open_at k t
+  opened_same maker [] t z = omega arith
+  opened_same maker (j ∷ js) t z = at (is_full j) (key_eq k (made_key maker j.number)) refl (opened_same maker js t (omega (arith, z)))
+    where
+      at : (b c : Bool) → key_eq k (made_key maker j.number) ≡ c → opened_gives k maker js + open_at k (s.put_joins maker js t) ≡ open_at k t
+          → (one_if (b && c) + opened_gives k maker js) + open_at k (if b then s.put_joins maker js t else s.put_join maker j (s.put_joins maker js t)) ≡ open_at k t
+      at b true e rest = let bit : one_if (key_eq k (made_key maker j.number)) ≡ 1 = ap one_if e in absurd (omega (arith, bit, z))
+      at true false e rest = omega (arith, rest)
+      at false false e rest =
+          let there : open_at k (s.put_join maker j (s.put_joins maker js t)) ≡ open_at k (s.put_joins maker js t) = open_written k (made_key maker j.number) (Some (maker, j)) (s.put_joins maker js t) ∙ ap (λ c. one_if (is_some (cond c (Some (maker, j)) (fm.get (s.put_joins maker js t) k)))) e in
+          omega (arith, rest, there)
 
 -- ---- the numbers of new joins
 
@@ -170,13 +183,17 @@ module _ (p : Program) (setup : Setup) (maker : Name) (number : ℕ) where
     pub most : new ≤ 1
     pub old : number < next c → new ≡ 0
     pub taken : next d ≤ number → new ≡ 0
+    -- what is given leaves
+    pub exact : number < next c → n + open_in d ≡ open_in c
 
   none_given : (c d : Configuration) → d.waiting.joins ≡ c.waiting.joins → Gives c d 0
-  none_given c d e = record { new = 0; least = let same : open_in d ≡ open_in c = ap (open_at k) e in omega (arith, same); most = omega arith; old = λ l. refl; taken = λ l. refl }
+  none_given c d e =
+      let same : open_in d ≡ open_in c = ap (open_at k) e in
+      record { new = 0; least = omega (arith, same); most = omega arith; old = λ l. refl; taken = λ l. refl; exact = λ l. omega (arith, same) }
 
   -- where nothing is new
   settled : (c d : Configuration) (gs : List DueReply) → give_all gs c ≡ d → Gives c d (all_give k gs c.waiting)
-  settled c d gs is = subst (λ z. Gives c z (all_give k gs c.waiting)) is (record { new = 0; least = omega (arith, settle_least k (settle_bound gs c.waiting) gs c.waiting); most = omega arith; old = λ l. refl; taken = λ l. refl })
+  settled c d gs is = subst (λ z. Gives c z (all_give k gs c.waiting)) is (record { new = 0; least = omega (arith, settle_same k (settle_bound gs c.waiting) gs c.waiting); most = omega arith; old = λ l. refl; taken = λ l. refl; exact = λ l. omega (arith, settle_same k (settle_bound gs c.waiting) gs c.waiting) })
 
   module _ (c : Configuration) (kept : KeptIn c) (m_maker : Name) (serial : ℕ) (m : Message) (found : fm.get c.waiting.messages (made_key m_maker serial) ≡ Some m) where
     abbrev left : Configuration
@@ -187,7 +204,7 @@ module _ (p : Program) (setup : Setup) (maker : Name) (number : ℕ) where
 
     worked : (a : Actor × ℕ) (fresh : List Name) (e : Effects) → IsHandled p c m_maker serial m a fresh e → (d : Configuration) → give_all (s.step_replies e m.reply) (s.with_effects e a.0 left) ≡ d
         → Gives c d (opened_gives k a.0.name e.joins + all_give k (s.step_replies e m.reply) (s.with_effects e a.0 left).waiting)
-    worked a fresh e it d is = subst (λ z. Gives c z (opened_gives k a.0.name e.joins + all_give k (s.step_replies e m.reply) after.waiting)) is (record { new = new; least = least; most = most; old = not_old; taken = not_late })
+    worked a fresh e it d is = subst (λ z. Gives c z (opened_gives k a.0.name e.joins + all_give k (s.step_replies e m.reply) after.waiting)) is (record { new = new; least = least; most = most; old = not_old; taken = not_late; exact = exact })
       where
         after : Configuration
         after = s.with_effects e a.0 left
@@ -205,7 +222,7 @@ module _ (p : Program) (setup : Setup) (maker : Name) (number : ℕ) where
         new = made k a.0.name e.joins
 
         least : (opened_gives k a.0.name e.joins + all_give k (s.step_replies e m.reply) after.waiting) + open_in (give_all (s.step_replies e m.reply) after) ≤ open_in c + new
-        least = omega (arith, opened_least k a.0.name e.joins left.waiting.joins, settle_least k (settle_bound (s.step_replies e m.reply) after.waiting) (s.step_replies e m.reply) after.waiting)
+        least = omega (arith, opened_least k a.0.name e.joins left.waiting.joins, settle_same k (settle_bound (s.step_replies e m.reply) after.waiting) (s.step_replies e m.reply) after.waiting)
 
         most : new ≤ 1
         most = omega (arith, made_counts maker a.0.name number e.joins, good.once number)
@@ -216,6 +233,9 @@ module _ (p : Program) (setup : Setup) (maker : Name) (number : ℕ) where
               | inl z ↦ z
               | inr same ↦ let low : next c ≡ a.1 = ap (next_serial c.actors c.posted) same ∙ now in omega (arith, made_counts maker a.0.name number e.joins, good.low number (omega (arith, l, low)))
             ]
+
+        exact : number < next c → (opened_gives k a.0.name e.joins + all_give k (s.step_replies e m.reply) after.waiting) + open_in (give_all (s.step_replies e m.reply) after) ≡ open_in c
+        exact l = omega (arith, opened_same k a.0.name e.joins left.waiting.joins (not_old l), settle_same k (settle_bound (s.step_replies e m.reply) after.waiting) (s.step_replies e m.reply) after.waiting)
 
         not_late : next (give_all (s.step_replies e m.reply) after) ≤ number → new ≡ 0
         not_late l =
@@ -257,7 +277,7 @@ module _ (p : Program) (setup : Setup) (maker : Name) (number : ℕ) where
     print_to : (t : Target) (d : Configuration) → s.print_to t m left ≡ Some d → Gives c d (all_give k ((m.reply, Null) ∷ []) left.waiting)
     print_to target.Output d e =
         let g = settled (s.add_output (s.message_text m) left) d ((m.reply, Null) ∷ []) (some_is e) in
-        record { new = g.new; least = g.least; most = g.most; old = g.old; taken = g.taken }
+        record { new = g.new; least = g.least; most = g.most; old = g.old; taken = g.taken; exact = g.exact }
     print_to (target.Actor n) d e = absurd cc
 
   module _ (c : Configuration) (kept : KeptIn c) where
@@ -344,6 +364,23 @@ module _ (p : Program) (setup : Setup) (maker : Name) (number : ℕ) where
           let keeps = (one_step c kept (meaning_of p) (program_sizes p) (handlers_orderly p) setup one d e).keeps in
           omega (arith, falls c d (step_gives k (meaning_of p) c one) kept keeps.kept (keeps.goes.grows maker) (one_gives c kept one d e), later d keeps.kept f)
 
+  -- of a number that is taken: it was open, and is so or has given
+  run_exact : (ss : List Step) (c end : Configuration) → KeptIn c → number < next c → steps (meaning_of p) setup c ss ≡ Some end → run_gives k (meaning_of p) setup (Some c) ss + open_in end ≡ open_in c
+  unfolding steps
+  run_exact [] c end kept low is = let same : open_in end ≡ open_in c = ap open_in (sym (some_is is)) in omega (arith, same)
+  run_exact (one ∷ ss) c end kept low is = at (s.step (meaning_of p) setup c one) refl is (λ d. run_exact ss d end)
+    where
+      at : (o : Option Configuration) → s.step (meaning_of p) setup c one ≡ o → option_and_then (λ d. steps (meaning_of p) setup d ss) o ≡ Some end
+          → ((d : Configuration) → KeptIn d → number < next d → steps (meaning_of p) setup d ss ≡ Some end → run_gives k (meaning_of p) setup (Some d) ss + open_in end ≡ open_in d)
+          → (step_gives k (meaning_of p) c one + run_gives k (meaning_of p) setup o ss) + open_in end ≡ open_in c
+      at None e f later = absurd cc
+      at (Some d) e f later =
+          let keeps = (one_step c kept (meaning_of p) (program_sizes p) (handlers_orderly p) setup one d e).keeps in
+          omega (arith, (one_gives c kept one d e).exact low, later d keeps.kept (omega (arith, low, keeps.goes.grows maker)) f)
+
+  open_low : (c : Configuration) → KeptIn c → fm.contains_key c.waiting.joins k ≡ true → number < next c
+  open_low c kept e = let x = there_is c.waiting.joins k e in (kept.waits.joins.at k x.0 x.1).number maker number refl
+
   may_most : (c : Configuration) → may_give c ≤ 1
   may_most c = at (nat_lt number (next c)) (fm.contains_key c.waiting.joins k)
     where
@@ -356,3 +393,9 @@ pub give_once : JoinsGiveOnce
 give_once p setup ss end is maker number =
     let first : Configuration = first_configuration (meaning_of p) setup in
     omega (arith, run_least p setup maker number ss first end (kept_first setup.words (meaning_of p).begin) is, may_most p setup maker number first)
+
+pub give_as_they_leave : JoinsGiveAsTheyLeave
+give_as_they_leave p setup ss more c d is later maker number open_before =
+    let kept = (plays p setup (λ c. Unit {0}) (no_invariant p setup) ss c tt is).kept in
+    let bit : one_if (fm.contains_key c.waiting.joins (made_key maker number)) ≡ 1 = ap one_if open_before in
+    omega (arith, bit, run_exact p setup maker number more c d kept (open_low p setup maker number c kept open_before) later)

@@ -52,7 +52,7 @@ use Rattle.sal_runs.proofs.Steps.{some_is}
 
 -- ---- names that are given
 
-no_invariant : (p : Program) (setup : Setup) → Invariant p setup (λ c. Unit {0})
+pub no_invariant : (p : Program) (setup : Setup) → Invariant p setup (λ c. Unit {0})
 no_invariant p setup = record {
   dropped = λ maker serial c h. tt;
   failed = λ kind maker serial c h. tt;

@@ -1,5 +1,5 @@
 -- How often a join gives its array in a run: what is given is counted, step by step.
-use Rattle.std.specs.Prelude.{◌≡◌, ℕ, zero, suc, ◌+◌, ◌≤◌, ◌&&◌, cond, if◌then◌else◌, List, [], ◌∷◌, ◌++◌, length, Option, Some, None}
+use Rattle.std.specs.Prelude.{◌≡◌, ℕ, zero, suc, ◌+◌, ◌≤◌, true, ◌&&◌, cond, if◌then◌else◌, List, [], ◌∷◌, ◌++◌, length, Option, Some, None}
 use Rattle.std.specs.FinMap as fm
 use Rattle.sal_value.specs.declared.name.Name.{Name}
 use Rattle.sal_value.specs.declared.value.Value.{Value}
@@ -24,9 +24,9 @@ use Rattle.sal_source.specs.Table.{TableKey, key_eq}
 use Rattle.sal_source.specs.Keys.{made_key}
 use Rattle.sal_source.specs.Configuration.{Waiting, Configuration, first_configuration}
 use Rattle.sal_source.specs.Give.{DueReply, join_replies, give_one, replies_if_legal, settle_bound}
-use Rattle.sal_source.specs.Once.{one_if}
+use Rattle.sal_source.specs.Once.{one_if, is_open_join}
 use Rattle.sal_source.specs.Step.{call_of, understands, actor_at, pending, drop_message, with_effects, step_replies, step}
-use Rattle.sal_source.specs.Run.{play}
+use Rattle.sal_source.specs.Run.{steps, play}
 
 -- how often the join at this key gives when this reply is given: once where that fills its last slot
 abbrev pub join_gives : TableKey → Reply → Value → Waiting → ℕ
@@ -90,3 +90,11 @@ abbrev pub JoinsGiveOnce : Type 0
 JoinsGiveOnce =
     (p : Program) (setup : Setup) (ss : List Step) (end : Configuration) → play p setup ss ≡ Some end
     → (maker : Name) (number : ℕ) → run_gives (made_key maker number) (meaning_of p) setup (Some (first_configuration (meaning_of p) setup)) ss ≤ 1
+
+-- From a configuration in which a join is open, however the run goes on: it is open yet and has given nothing since, or
+-- it is open no more and has given once.
+abbrev pub JoinsGiveAsTheyLeave : Type 0
+JoinsGiveAsTheyLeave =
+    (p : Program) (setup : Setup) (ss more : List Step) (c d : Configuration) → play p setup ss ≡ Some c → steps (meaning_of p) setup c more ≡ Some d
+    → (maker : Name) (number : ℕ) → is_open_join maker number c ≡ true
+    → run_gives (made_key maker number) (meaning_of p) setup (Some c) more + one_if (is_open_join maker number d) ≡ 1

@@ -1,6 +1,6 @@
 //! Laws of runs: functions without work, whose contracts are the laws.
 
-ghost use Rattle.sal_runs.specs.Gives.{JoinsGiveOnce};
+ghost use Rattle.sal_runs.specs.Gives.{JoinsGiveAsTheyLeave, JoinsGiveOnce};
 ghost use Rattle.sal_runs.specs.Kept.{OpenJoinsLackValues, StepsTellMore};
 ghost use Rattle.sal_runs.specs.Owed.{RunsOweOnce};
 ghost use Rattle.sal_runs.specs.Sound.{BoundNamesAreServed, GivenNamesAreActors, RunsStaySound};
@@ -38,4 +38,9 @@ pub fn runs_owe_once()
 /// No join gives its array twice in a run.
 pub fn joins_give_once()
     ensures { JoinsGiveOnce }
+{}
+
+/// A join that was open is open yet, or has given once.
+pub fn joins_give_as_they_leave()
+    ensures { JoinsGiveAsTheyLeave }
 {}
