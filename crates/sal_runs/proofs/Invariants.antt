@@ -1,5 +1,5 @@
 -- What each change that a step of a program's run makes keeps, all configurations of its runs keep.
-use Rattle.std.proofs.Common.{◌≡◌, inl, inr, ℕ, ◌≤◌, Bool, true, false, cond, not, ◌&&◌, ◌||◌, List, [], ◌∷◌, Option, Some, None, is_some, refl, sym, ap, subst, ◌∙◌, arith}
+use Rattle.std.proofs.Common.{◌≡◌, inl, inr, ℕ, Bool, true, false, cond, not, ◌&&◌, ◌||◌, List, [], ◌∷◌, Option, Some, None, is_some, refl, sym, ap, subst, ◌∙◌, arith}
 use Rattle.std.specs.Prelude.{if◌then◌else◌, option_and_then}
 use Rattle.std.specs.FinMap as fm
 use Rattle.std.specs.FinSet as fs
@@ -18,7 +18,6 @@ use Rattle.sal_mail.specs.declared.effects.Effects.{Effects}
 use Rattle.sal_mail.specs.declared.fault.FaultKind.{FaultKind}
 use Rattle.sal_mail.specs.declared.fault.FaultKind.TheVariants.{Trap as Trapped, NoHandler, NameTaken}
 use Rattle.sal_mail.specs.Message.{is_ready}
-use Rattle.sal_handler.specs.Calls.{Meaning}
 use Rattle.sal_handler.specs.Fits.{meaning_of}
 use Rattle.sal_handler.specs.Handler.{handle}
 use Rattle.sal_handler.specs.WellFormed.{program_sizes}
@@ -39,7 +38,7 @@ use Rattle.sal_source.specs.Posts.{fits_post}
 use Rattle.sal_source.specs.Run.{steps, play}
 use Rattle.sal_source.specs.Step as s
 use Rattle.sal_source.proofs.Given.{contains_keys, keys_none}
-use Rattle.sal_source.proofs.Keeping.{Actors, Fits, IsKeyed, KeptIn, same_made, split}
+use Rattle.sal_source.proofs.Keeping.{Actors, Fits, IsKeyed, KeptIn, same_made, split, flipped}
 use Rattle.sal_source.proofs.Once.{Each, each_none}
 use Rattle.sal_source.proofs.Stepping.{one_step}
 use Rattle.sal_source.proofs.Tables.{get-table_of, words_tells, words_anti}
@@ -106,7 +105,7 @@ pub record Invariant (p : Program) (setup : Setup) (P : Configuration → Type 0
   pub given : (gs : List DueReply) (c : Configuration) → P c → P (give_all gs c)
   pub printed : (text : List ℕ) (c : Configuration) → P c → P (s.add_output text c)
   pub unmade : (maker : Name) (serial : ℕ) (c : Configuration) → P c → P (s.drop_creation maker serial c)
-  pub bound : (maker : Name) (serial : ℕ) (x : Name × Creation) (c : Configuration) → fm.get c.creations (made_key maker serial) ≡ Some x → s.is_served setup.authorities x.1.name ≡ true → P c → P (s.bind_creation x.1 (s.drop_creation maker serial c))
+  pub bound : (maker : Name) (serial : ℕ) (x : Name × Creation) (c : Configuration) → KeptIn c → fm.get c.creations (made_key maker serial) ≡ Some x → s.is_served setup.authorities x.1.name ≡ true → s.is_given x.1 c ≡ false → P c → P (s.bind_creation x.1 (s.drop_creation maker serial c))
   pub posted : (number : ℕ) (to : Uan) (behavior handler : ℕ) (args : List Value) (c : Configuration) → fits_post c.posted number to behavior args ≡ true → P c → P (s.after_post number to behavior handler args c)
 
 module _ (p : Program) (setup : Setup) (P : Configuration → Type 0) (r : Invariant p setup P) where
@@ -158,7 +157,7 @@ module _ (p : Program) (setup : Setup) (P : Configuration → Type 0) (r : Invar
     bind maker serial (Some x) is d e = by (s.is_served setup.authorities x.1.name && not (s.is_given x.1 c)) refl e
       where
         by : (b : Bool) → s.is_served setup.authorities x.1.name && not (s.is_given x.1 c) ≡ b → (if b then Some (s.bind_creation x.1 (s.drop_creation maker serial c)) else None) ≡ Some d → P d
-        by true q e = subst P (some_is e) (r.bound maker serial x c is (split (s.is_served setup.authorities x.1.name) (not (s.is_given x.1 c)) q).0 here)
+        by true q e = subst P (some_is e) (r.bound maker serial x c kept is (split (s.is_served setup.authorities x.1.name) (not (s.is_given x.1 c)) q).0 (flipped (s.is_given x.1 c) (split (s.is_served setup.authorities x.1.name) (not (s.is_given x.1 c)) q).1) here)
         by false q e = absurd cc
 
     refuse : (maker : Name) (serial : ℕ) (o : Option (Name × Creation)) (d : Configuration) → s.refuse maker serial o c ≡ Some d → P d

@@ -1,5 +1,5 @@
 -- No open join is full.
-use Rattle.std.proofs.Common.{◌≡◌, inl, inr, ℕ, zero, suc, Bool, true, false, cond, List, [], ◌∷◌, ◌++◌, Option, Some, None, refl, sym, ap, subst, ◌∙◌}
+use Rattle.std.proofs.Common.{◌≡◌, ℕ, zero, suc, Bool, true, false, cond, List, [], ◌∷◌, ◌++◌, Option, Some, None, refl, subst}
 use Rattle.std.specs.Prelude.{if◌then◌else◌, option_and_then}
 use Rattle.std.specs.FinMap as fm
 use Rattle.sal_value.specs.declared.name.Name.{Name}
@@ -15,14 +15,14 @@ use Rattle.sal_handler.specs.Calls.{Meaning}
 use Rattle.sal_handler.specs.Fits.{meaning_of}
 use Rattle.sal_source.specs.declared.state.Setup.{Setup}
 use Rattle.sal_source.specs.declared.state.Step.{Step}
-use Rattle.sal_source.specs.Table.{TableKey, key_cmp, key_eq, Table, write}
+use Rattle.sal_source.specs.Table.{TableKey, Table}
 use Rattle.sal_source.specs.Keys.{made_key}
 use Rattle.sal_source.specs.Configuration.{Waiting, Configuration, first_by}
-use Rattle.sal_source.specs.Give.{DueReply, join_after_value, owned_join_with_slot, give_to, give_one, replies_if_legal, settle, settle_all, settle_bound}
+use Rattle.sal_source.specs.Give.{DueReply, join_after_value, owned_join_with_slot, give_to, give_one, replies_if_legal, settle, settle_bound}
 use Rattle.sal_source.specs.Step.{put_join, put_joins, step}
 use Rattle.sal_source.specs.Run.{steps}
 use Rattle.sal_source.proofs.Once.{Each, each_written, each_none}
-use Rattle.sal_runs.specs.Kept.{JoinsLackValues, OpenJoinsLackValues}
+use Rattle.sal_runs.specs.Kept.{OpenJoinsLackValues}
 use Rattle.sal_runs.proofs.Steps.{some_is, Relates, related}
 
 abbrev Lacks : TableKey → Name × Join → Type 0

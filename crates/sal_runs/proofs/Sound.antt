@@ -1,5 +1,5 @@
 -- Configurations of runs are sound.
-use Rattle.std.proofs.Common.{◌≡◌, inl, inr, ℕ, zero, suc, ◌+◌, Bool, true, false, cond, not, ◌&&◌, List, [], ◌∷◌, ◌++◌, length, map, Option, Some, None, refl, sym, ap, subst, ◌∙◌, arith}
+use Rattle.std.proofs.Common.{◌≡◌, ℕ, zero, suc, Bool, true, false, cond, not, ◌&&◌, List, [], ◌∷◌, ◌++◌, length, map, Option, Some, None, refl, sym, subst}
 use Rattle.std.specs.Prelude.{if◌then◌else◌, nat_eq, nat_lt, filter_map}
 use Rattle.std.specs.List.{list_all}
 use Rattle.std.specs.FinMap as fm
@@ -23,38 +23,36 @@ use Rattle.sal_mail.specs.declared.message.Join.{Join}
 use Rattle.sal_mail.specs.declared.effects.Actor.{Actor}
 use Rattle.sal_mail.specs.declared.effects.Creation.{Creation}
 use Rattle.sal_mail.specs.declared.effects.Effects.{Effects}
-use Rattle.sal_mail.specs.Message.{with_reply, piece_with_reply, known_value, known_values, without_delay, fill_slot, with_slot, is_full}
+use Rattle.sal_mail.specs.Message.{with_reply, piece_with_reply, known_value, without_delay, fill_slot, with_slot, is_full}
 use Rattle.sal_envelope.specs.Spelling.{reply_is_spelled}
-use Rattle.sal_handler.specs.Calls.{Call}
 use Rattle.sal_handler.specs.Fits.{meaning_of}
 use Rattle.sal_handler.specs.Handler.{begin}
 use Rattle.sal_handler.specs.declared.turn.Began.{Began}
 use Rattle.sal_handler.specs.declared.turn.Began.TheVariants as began
-use Rattle.sal_handler.specs.WellFormed.{EachOf, Legal, IsLegalPiece, IsOldReply, IsSoundCall, IsWellFormed, IsOrderly, HaveFreshNames, program_sizes}
+use Rattle.sal_handler.specs.WellFormed.{EachOf, Legal, IsLegalPiece, IsOldReply, IsSoundCall, IsWellFormed, IsOrderly, program_sizes}
 use Rattle.sal_handler.proofs.Addresses.{each_append, each_more}
 use Rattle.sal_handler.proofs.FairCalls.{handlers_orderly, handlers_fair}
 use Rattle.sal_effects.specs.Slots.{IsEmpty, ServesSlots}
-use Rattle.sal_effects.specs.Spelled.{TargetIsSpelled, IsLocator, MessageIsSpelled, IsSpelled}
+use Rattle.sal_effects.specs.Spelled.{IsLocator, MessageIsSpelled, IsSpelled}
 use Rattle.sal_effects.proofs.Serving.{serve_slots}
 use Rattle.sal_effects.proofs.Spelling.{spell_all, begin_legally}
 use Rattle.sal_source.specs.declared.state.Setup.{Setup}
-use Rattle.sal_source.specs.declared.state.Step.{Step}
-use Rattle.sal_source.specs.Table.{TableKey, key_eq, Table, write, table_map}
+use Rattle.sal_source.specs.Table.{TableKey, key_eq, Table}
 use Rattle.sal_source.specs.Keys.{name_key, made_key, message_key, actor_key}
 use Rattle.sal_source.specs.Configuration.{Waiting, Configuration, first_by, start_actor, act_message}
-use Rattle.sal_source.specs.Give.{DueReply, resolve, owned_join_with_slot, join_after_value, give_to, give_one, outside_answers, replies_if_legal, answers_if_legal, settle, settle_answers, settle_bound, settle_all, settle_all_answers, give_all}
+use Rattle.sal_source.specs.Give.{DueReply, resolve, owned_join_with_slot, join_after_value, give_to, give_one, outside_answers, replies_if_legal, answers_if_legal, settle, settle_answers, settle_bound, settle_all_answers}
 use Rattle.sal_source.specs.Posts.{fits_post, may_be_posted, holds_universal, post_message}
 use Rattle.sal_source.specs.Step as s
 use Rattle.sal_source.proofs.Installing.{old_reply}
-use Rattle.sal_source.proofs.Keeping.{KeptIn, IsKeyed, anonymous_actor, named, split}
+use Rattle.sal_source.proofs.Keeping.{named, split}
 use Rattle.sal_source.proofs.Once.{Each, each_written, each_mapped, each_none}
-use Rattle.sal_runs.specs.Sound.{EachIn, NamesAreActors, GivenNamesAreActors, IsServed, BoundNamesAreServed, ActorIsSound, MessageIsSound, SlotIsSound, JoinIsSound, CreationIsSound, IsSound, RunsStaySound}
-use Rattle.sal_runs.proofs.Invariants.{IsHandled, Invariant, Holds, plays, each_of_one}
+use Rattle.sal_runs.specs.Sound.{GivenNamesAreActors, IsServed, BoundNamesAreServed, ActorIsSound, MessageIsSound, SlotIsSound, JoinIsSound, CreationIsSound, RunsStaySound}
+use Rattle.sal_runs.proofs.Invariants.{IsHandled, Invariant, plays, each_of_one}
 use Rattle.sal_runs.proofs.Steps.{some_is}
 
 -- ---- names that are given
 
-no_invariant : (p : Program) (setup : Setup) → Invariant p setup (λ c. Unit {0})
+pub no_invariant : (p : Program) (setup : Setup) → Invariant p setup (λ c. Unit {0})
 no_invariant p setup = record {
   dropped = λ maker serial c h. tt;
   failed = λ kind maker serial c h. tt;
@@ -62,7 +60,7 @@ no_invariant p setup = record {
   given = λ gs c h. tt;
   printed = λ text c h. tt;
   unmade = λ maker serial c h. tt;
-  bound = λ maker serial x c f q h. tt;
+  bound = λ maker serial x c k f q g h. tt;
   posted = λ number to behavior handler args c q h. tt;
 }
 
@@ -92,10 +90,10 @@ module _ (p : Program) (c : Configuration) (maker : Name) (serial : ℕ) (m : Me
   anonymous : list_all s.is_anonymous fresh ≡ true
   anonymous = fresh_anonymous c.given fresh (split (list_all (s.is_new c.given) fresh) (s.are_different fresh) fits_parts.1).0
 
-  old : IsOldReply a.0.name a.1 m.reply
+  pub old : IsOldReply a.0.name a.1 m.reply
   old = old_reply c.actors c.posted a k.actor k.keyed.actor m.reply (k.kept.waits.messages.at (made_key maker serial) m k.pending).owed
 
-  order : IsOrderly (program_sizes p) (s.call_of m a fresh) e
+  pub order : IsOrderly (program_sizes p) (s.call_of m a fresh) e
   order = handlers_orderly p (s.call_of m a fresh) e old k.did
 
   new_anonymous : EachOf (λ (x : Actor). s.is_anonymous x.name ≡ true) e.actors
@@ -134,7 +132,7 @@ module _ (setup : Setup) where
     given = λ gs c h. h;
     printed = λ text c h. h;
     unmade = λ maker serial c h. h;
-    bound = λ maker serial x c f q h.
+    bound = λ maker serial x c k f q g h.
         each_written (λ key (x : Actor × ℕ). Served x.0) c.actors (name_key (name.Uan x.1.name)) (Some (s.bound_actor x.1, 0)) h
         (λ y is. let same : (s.bound_actor x.1, 0) ≡ y = some_is is in subst (λ (z : Actor × ℕ). Served z.0) same q);
     posted = λ number to behavior handler args c q h. h;
@@ -415,7 +413,7 @@ sounding p setup = record {
   given = λ gs c h. record { actors = h.actors; creations = h.creations; waits = settle_sound (settle_bound gs c.waiting) gs c.waiting h.waits; answers = each_append AnswerIsSound c.answers (settle_all_answers gs c.waiting) h.answers (answers_sound (settle_bound gs c.waiting) gs c.waiting) };
   printed = λ text c h. same_sound c (s.add_output text c) refl refl refl refl h;
   unmade = unmade_sound;
-  bound = λ maker serial x c f q h. bound_sound maker serial x c f h;
+  bound = λ maker serial x c k f q g h. bound_sound maker serial x c f h;
   posted = posted_sound;
 }
 

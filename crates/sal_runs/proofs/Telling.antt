@@ -1,7 +1,5 @@
 -- What a step tells stands behind what was told.
-use Rattle.std.proofs.Common.{◌≡◌, ℕ, List, [], ◌∷◌, ◌++◌, refl, sym, ap, ◌∙◌, append_assoc, append-nil}
-use Rattle.sal_value.specs.declared.value.Value.{Value}
-use Rattle.sal_mail.specs.declared.fault.Fault.{Fault}
+use Rattle.std.proofs.Common.{◌≡◌, List, [], ◌∷◌, ◌++◌, refl, sym, ap, ◌∙◌, append_assoc, append-nil}
 use Rattle.sal_source.specs.declared.state.Setup.{Setup}
 use Rattle.sal_source.specs.Configuration.{Configuration}
 use Rattle.sal_source.specs.Give.{settle_all_answers}

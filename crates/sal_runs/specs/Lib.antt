@@ -1,2 +1,4 @@
+pub mod Gives
 pub mod Kept
+pub mod Owed
 pub mod Sound

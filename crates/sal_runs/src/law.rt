@@ -1,6 +1,8 @@
 //! Laws of runs: functions without work, whose contracts are the laws.
 
+ghost use Rattle.sal_runs.specs.Gives.{JoinsGiveAsTheyLeave, JoinsGiveOnce};
 ghost use Rattle.sal_runs.specs.Kept.{OpenJoinsLackValues, StepsTellMore};
+ghost use Rattle.sal_runs.specs.Owed.{RunsOweOnce};
 ghost use Rattle.sal_runs.specs.Sound.{BoundNamesAreServed, GivenNamesAreActors, RunsStaySound};
 
 /// In every configuration that a run comes to, each open join lacks a value.
@@ -26,4 +28,19 @@ pub fn bound_names_are_served()
 /// In every configuration that a run comes to names have spellings, and known values are legal.
 pub fn runs_stay_sound()
     ensures { RunsStaySound }
+{}
+
+/// To each address at most one reply is owed by what waits.
+pub fn runs_owe_once()
+    ensures { RunsOweOnce }
+{}
+
+/// No join gives its array twice in a run.
+pub fn joins_give_once()
+    ensures { JoinsGiveOnce }
+{}
+
+/// A join that was open is open yet, or has given once.
+pub fn joins_give_as_they_leave()
+    ensures { JoinsGiveAsTheyLeave }
 {}

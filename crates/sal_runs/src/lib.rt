@@ -4,6 +4,6 @@
 mod law;
 
 pub use law::{
-    bound_names_are_served, given_names_are_actors, open_joins_lack_values, runs_stay_sound,
-    steps_tell_more,
+    bound_names_are_served, given_names_are_actors, joins_give_as_they_leave, joins_give_once,
+    open_joins_lack_values, runs_owe_once, runs_stay_sound, steps_tell_more,
 };
