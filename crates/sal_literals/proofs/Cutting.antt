@@ -1,12 +1,13 @@
 -- Cutting texts.
-use Rattle.std.proofs.Common.{◌≡◌, ℕ, zero, suc, ◌+◌, ◌<◌, ◌≤◌, Bool, true, false, ◌&&◌, Option, Some, None, List, [], ◌∷◌, ◌++◌, length, get_or, take, drop, append_assoc, append-nil, refl, sym, ap, subst, ◌∙◌, add-one, arith}
+use Rattle.std.proofs.Common.{◌≡◌, ℕ, zero, suc, ◌+◌, ◌<◌, ◌≤◌, Bool, true, false, ◌&&◌, ◌||◌, ◌==◌, Option, Some, None, List, [], ◌∷◌, ◌++◌, length, get_or, take, drop, append_assoc, append-nil, refl, sym, ap, subst, ◌∙◌, add-one, arith}
 use Rattle.std.specs.Prelude.{if◌then◌else◌}
 use Rattle.std.specs.Str.{IsUtf8, is_utf8, bytes_eq}
 use Rattle.std.proofs.lemmas.List.{length-take, at_drop_more, take_more, take_all, drop_all}
 use Rattle.std.proofs.lemmas.Slice.Eq.{bytes_eq-Decides}
-use Rattle.sal_value.specs.Names.{until, from_first}
+use Rattle.sal_value.specs.Names.{until, from_first, is_colon}
 use Rattle.sal_value.proofs.Utf8 as utf8
 use Rattle.sal_literals.specs.Reading.{after_prefix}
+use Rattle.sal_literals.specs.code.Reads.{is_either}
 
 pub utf8_true : (bytes : List ℕ) → IsUtf8 bytes → is_utf8 bytes ≡ true
 utf8_true = utf8.utf8_true
@@ -55,18 +56,42 @@ fails_more test xs i lt fails h =
     }
 
 -- a byte passes it
-pub passes_here : (test : ℕ → Bool) (xs : List ℕ) (i : ℕ) → i < length xs → test (get_or xs i 0) ≡ true → IsBefore test xs i → (take i xs ≡ until test xs) × (drop i xs ≡ from_first test xs)
-passes_here test xs i lt passes h =
-    let b : ℕ = get_or xs i 0 in
-    let ys : List ℕ = drop (i + 1) xs in
-    let until_is : until test (drop i xs) ≡ [] = ap (until test) (next test xs i lt) ∙ here_until test b ys true passes in
-    let rest_is : from_first test (drop i xs) ≡ drop i xs = ap (from_first test) (next test xs i lt) ∙ here_rest test b ys true passes ∙ sym (next test xs i lt) in
-    (sym (h.front ∙ ap (λ (z : List ℕ). take i xs ++ z) until_is ∙ append-nil (take i xs)), sym (h.rest ∙ rest_is))
+pub front_here : (test : ℕ → Bool) (xs : List ℕ) (i : ℕ) → i < length xs → test (get_or xs i 0) ≡ true → IsBefore test xs i → take i xs ≡ until test xs
+front_here test xs i lt passes h =
+    let is : until test (drop i xs) ≡ [] = ap (until test) (next test xs i lt) ∙ here_until test (get_or xs i 0) (drop (i + 1) xs) true passes in
+    sym (h.front ∙ ap (λ (z : List ℕ). take i xs ++ z) is ∙ append-nil (take i xs))
+
+pub rest_here : (test : ℕ → Bool) (xs : List ℕ) (i : ℕ) → i < length xs → test (get_or xs i 0) ≡ true → IsBefore test xs i → drop i xs ≡ from_first test xs
+rest_here test xs i lt passes h =
+    sym (h.rest ∙ ap (from_first test) (next test xs i lt) ∙ here_rest test (get_or xs i 0) (drop (i + 1) xs) true passes ∙ sym (next test xs i lt))
 
 -- none does
-pub none_passes : (test : ℕ → Bool) (xs : List ℕ) (i : ℕ) → length xs ≤ i → IsBefore test xs i → (take (length xs) xs ≡ until test xs) × (drop (length xs) xs ≡ from_first test xs)
-none_passes test xs i le h =
+pub all_before : (test : ℕ → Bool) (xs : List ℕ) (i : ℕ) → length xs ≤ i → IsBefore test xs i → take (length xs) xs ≡ until test xs
+all_before test xs i le h =
     let none : drop i xs ≡ [] = drop_all i xs le in
-    let until_is : until test xs ≡ xs = h.front ∙ ap (λ (z : List ℕ). take i xs ++ until test z) none ∙ append-nil (take i xs) ∙ take_all i xs le in
-    let rest_is : from_first test xs ≡ [] = h.rest ∙ ap (from_first test) none in
-    (take_all (length xs) xs (omega arith) ∙ sym until_is, drop_all (length xs) xs (omega arith) ∙ sym rest_is)
+    let is : until test xs ≡ xs = h.front ∙ ap (λ (z : List ℕ). take i xs ++ until test z) none ∙ append-nil (take i xs) ∙ take_all i xs le in
+    take_all (length xs) xs (omega arith) ∙ sym is
+
+pub none_after : (test : ℕ → Bool) (xs : List ℕ) (i : ℕ) → length xs ≤ i → IsBefore test xs i → drop (length xs) xs ≡ from_first test xs
+none_after test xs i le h =
+    let none : drop i xs ≡ [] = drop_all i xs le in
+    drop_all (length xs) xs (omega arith) ∙ sym (h.rest ∙ ap (from_first test) none)
+
+-- ---- colons
+
+or_same : (t : Bool) → t || t ≡ t
+or_same true = refl
+or_same false = refl
+
+colon_is : (b : ℕ) → is_either 58 58 b ≡ is_colon b
+colon_is b = or_same (b == 58)
+
+pub colon_until : (xs : List ℕ) → until (is_either 58 58) xs ≡ until is_colon xs
+colon_until [] = refl
+colon_until (x ∷ xs) =
+    ap (λ t. if t then [] else x ∷ until (is_either 58 58) xs) (colon_is x) ∙ ap (λ (z : List ℕ). if is_colon x then [] else x ∷ z) (colon_until xs)
+
+pub colon_rest : (xs : List ℕ) → from_first (is_either 58 58) xs ≡ from_first is_colon xs
+colon_rest [] = refl
+colon_rest (x ∷ xs) =
+    ap (λ t. if t then x ∷ xs else from_first (is_either 58 58) xs) (colon_is x) ∙ ap (λ (z : List ℕ). if is_colon x then x ∷ xs else z) (colon_rest xs)

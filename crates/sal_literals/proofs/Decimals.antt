@@ -61,9 +61,6 @@ no_number ds h = none_at ds (number_of ds) refl h
 pub no_text : (ds : List ℕ) → (IsUtf8 ds → ⊥) → None ≡ number_of ds
 no_text ds other = no_number ds (λ n e lt. other (subst IsUtf8 (sym e) (IsUtf8-from_ascii (decimal n) (IsAscii-decimal n lt))))
 
-pub number_zero : Some 0 ≡ number_of (48 ∷ [])
-number_zero = let is : decimal 0 ≡ 48 ∷ [] = decimal_digit 0 (omega arith) in sym (ap number_of (sym is) ∙ number_again 0 (omega arith))
-
 pub parsed_is : {E : Type 0} (ds : List ℕ) (r : Result ℕ E) → ParsesUnsigned 64 10 ds r → 49 ≤ get_or ds 0 0 → get_or ds 0 0 ≤ 57 → result_ok r ≡ number_of ds
 parsed_is {E} ds (Ok n) h low high =
     let other : get_or ds 0 0 ≢ 43 = omega arith in
@@ -81,19 +78,38 @@ first_is n lt =
     let range = digit_at (decimal n) 0 numeral.1 numeral.0 in
     (range.0, range.1)
 
-one_zero : (ds : List ℕ) (n : ℕ) → ds ≡ decimal n → n < 2 ^ 64 → get_or ds 0 0 < 49 → ds ≡ 48 ∷ []
-one_zero ds zero e lt low = e ∙ decimal_digit 0 (omega arith)
-one_zero ds (suc n) e lt low =
-    let first : 48 < get_or (decimal (suc n)) 0 0 = first_decimal (suc n) (omega arith) lt in
-    let same : get_or ds 0 0 ≡ get_or (decimal (suc n)) 0 0 = ap (λ (z : List ℕ). get_or z 0 0) e in
-    absurd (omega arith)
+length_is : (ds : List ℕ) (n : ℕ) → ds ≡ decimal n → length ds ≡ length (decimal n)
+length_is ds n e = ap length e
 
--- a text whose first byte is no digit but 0, and which isn't `0`
-pub low_first : (ds : List ℕ) → get_or ds 0 0 < 49 → (ds ≡ 48 ∷ [] → ⊥) → None ≡ number_of ds
-low_first ds low other = no_number ds (λ n e lt. other (one_zero ds n e lt low))
+first_of_text : (ds : List ℕ) (n : ℕ) → ds ≡ decimal n → get_or ds 0 0 ≡ get_or (decimal n) 0 0
+first_of_text ds n e = ap (λ (z : List ℕ). get_or z 0 0) e
+
+pub no_digits : (ds : List ℕ) → length ds ≡ 0 → None ≡ number_of ds
+no_digits ds none = no_number ds (λ n e lt. let some = decimal_nonempty n lt in let same = length_is ds n e in absurd (omega arith))
+
+pub low_first : (ds : List ℕ) → get_or ds 0 0 < 48 → None ≡ number_of ds
+low_first ds low = no_number ds (λ n e lt. let first = (first_is n lt).0 in let same = first_of_text ds n e in absurd (omega arith))
 
 pub high_first : (ds : List ℕ) → 57 < get_or ds 0 0 → None ≡ number_of ds
-high_first ds high = no_number ds (λ n e lt.
-    let first = (first_is n lt).1 in
-    let same : get_or ds 0 0 ≡ get_or (decimal n) 0 0 = ap (λ (z : List ℕ). get_or z 0 0) e in
-    absurd (omega arith))
+high_first ds high = no_number ds (λ n e lt. let first = (first_is n lt).1 in let same = first_of_text ds n e in absurd (omega arith))
+
+single : (ds : List ℕ) → get_or ds 0 0 ≡ 48 → length ds ≡ 1 → ds ≡ 48 ∷ []
+single [] first one = absurd (omega arith)
+single (d ∷ []) first one = ap (λ z. z ∷ []) first
+single (d ∷ c ∷ ds) first one = absurd (omega arith)
+
+zero_text : decimal 0 ≡ 48 ∷ []
+zero_text = decimal_digit 0 (omega arith)
+
+pub one_zero : (ds : List ℕ) → get_or ds 0 0 ≤ 48 → 48 ≤ get_or ds 0 0 → length ds ≡ 1 → Some 0 ≡ number_of ds
+one_zero ds low high one = sym (ap number_of (single ds (omega arith) one ∙ sym zero_text) ∙ number_again 0 (omega arith))
+
+is_zero : (ds : List ℕ) (n : ℕ) → ds ≡ decimal n → n < 2 ^ 64 → get_or ds 0 0 ≤ 48 → length ds ≡ 1
+is_zero ds zero e lt low = ap length (e ∙ zero_text)
+is_zero ds (suc n) e lt low =
+    let first : 48 < get_or (decimal (suc n)) 0 0 = first_decimal (suc n) (omega arith) lt in
+    let same = first_of_text ds (suc n) e in
+    absurd (omega arith)
+
+pub more_than_zero : (ds : List ℕ) → get_or ds 0 0 ≤ 48 → (length ds ≡ 1 → ⊥) → None ≡ number_of ds
+more_than_zero ds low other = no_number ds (λ n e lt. other (is_zero ds n e lt low))

@@ -118,10 +118,14 @@ abbrev pub is_array : List ℕ → Bool
 is_array [] = false
 is_array (sign ∷ rest) = sign == 91
 
+-- a value, where this reads what stands after the bracket of an array
+unfoldable pub value_by : (List ℕ → Option Name) → (List ℕ → Reading Value) → List ℕ → Reading Value
+value_by names array bytes = if is_array bytes then array (drop 1 bytes) else flat_at names bytes
+
 -- a value with at most so many arrays in one another
 unfoldable pub value_at : (List ℕ → Option Name) → ℕ → List ℕ → Reading Value
-value_at names zero bytes = if is_array bytes then None else flat_at names bytes
-value_at names (suc depth) bytes = if is_array bytes then array_at (value_at names depth) (drop 1 bytes) else flat_at names bytes
+value_at names zero = value_by names (λ _. None)
+value_at names (suc depth) = value_by names (array_at (value_at names depth))
 
 -- what was read, where nothing is left
 abbrev pub if_whole : {A : Type 0} → Reading A → Option A

@@ -8,8 +8,8 @@ ghost use Rattle.sal_value.specs.Decoding.{canonical_uan};
 ghost use Rattle.sal_literals.specs.Reading.{anon_of, number_of, name_of, schedule_name_of};
 ghost use Rattle.sal_literals.specs.code.Reads.{names_by, anon_in, outside_in};
 
-use crate::numbers::number;
-use crate::words::{after_prefix, cut, without_first};
+use crate::numbers::read_number;
+use crate::words::{after_prefix, cut_colon, without_first};
 use sal_value::{Name, NameFault, NoMemory, Uan};
 use std::alloc::Global;
 
@@ -38,14 +38,14 @@ fn anon_of(theatre: Option<u64>, number: Option<u64>) -> Option<Name>
 fn anon(rest: &[u8]) -> Option<Name>
     ensures { result ≡ anon_in rest.now }
 {
-    let (theatre, rest) = cut(rest, b':', b':');
-    anon_of(number(theatre), number(without_first(rest)))
+    let (theatre, rest) = cut_colon(rest);
+    anon_of(read_number(theatre), read_number(without_first(rest)))
 }
 
 fn outside(digits: &[u8]) -> Option<Name>
     ensures { result ≡ outside_in digits.now }
 {
-    match number(digits) {
+    match read_number(digits) {
         Some(number) => Some(Name::Outside(number)),
         None => None,
     }
@@ -92,7 +92,7 @@ pub fn name(alloc: Global, text: &[u8]) -> Result<Option<Name>, NoMemory>
 }
 
 /// The universal name that this text writes.
-#[tactic(auto, using(crate::proofs::UniversalNames::given_is, crate::proofs::UniversalNames::none_is), unfolding(crate::specs::Reading::schedule_name_of))]
+#[tactic(auto, using(crate::proofs::UniversalNames::given_is, crate::proofs::UniversalNames::none_is))]
 fn universal(alloc: Global, text: &[u8]) -> Result<Option<Name>, NoMemory>
     ensures { IfOk result (λ o. o ≡ schedule_name_of text.now) }
 {

@@ -17,15 +17,20 @@ fn parsed(digits: &[u8]) -> Option<u64>
 }
 
 /// The number below 2^64 that has this decimal text.
-#[tactic(auto, using(crate::proofs::Decimals::number_zero, crate::proofs::Decimals::low_first, crate::proofs::Decimals::high_first))]
-pub fn number(digits: &[u8]) -> Option<u64>
+#[tactic(auto, using(crate::proofs::Decimals::no_digits, crate::proofs::Decimals::low_first, crate::proofs::Decimals::high_first, crate::proofs::Decimals::one_zero, crate::proofs::Decimals::more_than_zero))]
+pub fn read_number(digits: &[u8]) -> Option<u64>
     ensures { result ≡ number_of digits.now }
 {
-    match digits {
-        [b'1'..=b'9', ..] => parsed(digits),
-        [b'0'] => Some(0),
-        _ => None,
+    if digits.is_empty() {
+        return None;
     }
+    if digits[0] < b'0' || b'9' < digits[0] {
+        return None;
+    }
+    if digits[0] > b'0' {
+        return parsed(digits);
+    }
+    if digits.len() == 1 { Some(0) } else { None }
 }
 
 fn not_negative(number: Option<u64>) -> Option<i32>
@@ -57,7 +62,7 @@ pub fn int(digits: &[u8]) -> Option<i32>
 {
     match digits {
         [] => None,
-        [b'-', rest @ ..] => negative(number(rest)),
-        _ => not_negative(number(digits)),
+        [b'-', rest @ ..] => negative(read_number(rest)),
+        _ => not_negative(read_number(digits)),
     }
 }

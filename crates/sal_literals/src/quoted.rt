@@ -77,6 +77,7 @@ fn after_low(high: u8, digit: Option<u8>) -> Scan
     }
 }
 
+#[tactic(auto, unfolding(crate::specs::code::Scanning::scan_step))]
 fn plain_step(byte: u8) -> Scan
     ensures { result ≡ scan_step Plain byte }
 {
@@ -88,6 +89,7 @@ fn plain_step(byte: u8) -> Scan
     }
 }
 
+#[tactic(auto, unfolding(crate::specs::code::Scanning::scan_step))]
 fn slash_step(byte: u8) -> Scan
     ensures { result ≡ scan_step Slash byte }
 {
@@ -101,6 +103,7 @@ fn slash_step(byte: u8) -> Scan
     }
 }
 
+#[tactic(auto, unfolding(crate::specs::code::Scanning::scan_step))]
 fn scan_step(at: Position, byte: u8) -> Scan
     ensures { result ≡ scan_step at byte }
 {
@@ -113,13 +116,14 @@ fn scan_step(at: Position, byte: u8) -> Scan
 }
 
 /// The bytes of a text up to its closing quote.
+#[tactic(auto, using(crate::proofs::Steps::scan_moves, crate::proofs::Steps::scan_gives, crate::proofs::Steps::scan_ends, crate::proofs::Steps::scan_fails, crate::proofs::Steps::scan_nothing, crate::proofs::Steps::nothing_read))]
 fn scan_text(alloc: Global, bytes: &[u8]) -> Result<(List<u8>, &[u8]), Fault>
     ensures { ReadsAs (λ x. (x.0, x.1.now)) result (scan_at Plain bytes.now) }
 {
     let mut text = List::new(alloc);
     let mut at = Position::Plain;
     let mut rest = bytes;
-    while let [byte, after @ ..] = rest {
+    'bytes: while let [byte, after @ ..] = rest {
         rest = after;
         match scan_step(at, *byte) {
             Scan::Moves(to) => at = to,

@@ -98,6 +98,7 @@ fn separator(bytes: &[u8]) -> Result<(bool, &[u8]), Fault>
 }
 
 /// A value with at most so many arrays in one another.
+#[tactic(auto, using(crate::proofs::Items::other_reads, crate::proofs::Items::too_deep, crate::proofs::Items::empty_array))]
 fn value(alloc: Global, names: Names, depth: u8, bytes: &[u8]) -> Result<(Value, &[u8]), Fault>
     ensures { ReadsAs (λ x. (x.0, x.1.now)) result (value_at (names_by names) depth bytes.now) }
 {
@@ -112,7 +113,8 @@ fn value(alloc: Global, names: Names, depth: u8, bytes: &[u8]) -> Result<(Value,
     }
     let mut items = List::new(alloc);
     let mut rest = inside;
-    for _ in 0..inside.len() {
+    let most = inside.len();
+    for _ in 0..most {
         let (item, after) = value(alloc, names, depth - 1, rest)?;
         items.push(item)?;
         let (ends, after) = separator(after)?;

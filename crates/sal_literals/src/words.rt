@@ -2,18 +2,25 @@
 
 ghost use Rattle.std.specs.Prelude.{◌≡◌, ◌≤◌, ◌==◌, ◌||◌, length, take, drop};
 ghost use Rattle.std.specs.Option.{option_map};
-ghost use Rattle.sal_value.specs.Names.{until, from_first};
+ghost use Rattle.sal_value.specs.Names.{until, from_first, is_colon};
 ghost use Rattle.sal_literals.specs.Reading.{after_prefix};
 ghost use Rattle.sal_literals.specs.code.Reads.{is_either};
 
+fn is_either(first: u8, second: u8, byte: u8) -> bool
+    ensures { result ≡ is_either first second byte }
+{
+    byte == first || byte == second
+}
+
 /// How many bytes stand before the first that is one of the two.
+#[tactic(auto, using(crate::proofs::Cutting::none_before, crate::proofs::Cutting::front_here, crate::proofs::Cutting::rest_here, crate::proofs::Cutting::all_before, crate::proofs::Cutting::none_after))]
 fn length_before(bytes: &[u8], first: u8, second: u8) -> usize
     ensures within { result ≤ length bytes.now }
     ensures before { take result bytes.now ≡ until (is_either first second) bytes.now }
     ensures after { drop result bytes.now ≡ from_first (is_either first second) bytes.now }
 {
     for (at, byte) in bytes.iter().enumerate() {
-        if *byte == first || *byte == second {
+        if is_either(first, second, *byte) {
             return at;
         }
     }
@@ -26,6 +33,15 @@ pub fn cut(bytes: &[u8], first: u8, second: u8) -> (&[u8], &[u8])
     ensures after { result.1.now ≡ from_first (is_either first second) bytes.now }
 {
     bytes.split_at(length_before(bytes, first, second))
+}
+
+/// The bytes before the first colon, and the others.
+#[tactic(auto, using(crate::proofs::Cutting::colon_until, crate::proofs::Cutting::colon_rest))]
+pub fn cut_colon(bytes: &[u8]) -> (&[u8], &[u8])
+    ensures before { result.0.now ≡ until is_colon bytes.now }
+    ensures after { result.1.now ≡ from_first is_colon bytes.now }
+{
+    cut(bytes, b':', b':')
 }
 
 /// What stands after these bytes.
