@@ -120,7 +120,7 @@ call_good m r s =
 five_more : (a b c d e rest : List ℕ) → (a ++ (b ++ (c ++ (d ++ e)))) ++ rest ≡ a ++ (b ++ (c ++ (d ++ (e ++ rest))))
 five_more a b c d e rest = simp append_assoc
 
-call_again : (m : Message) (rest : List ℕ) → message_in_range m ≡ true → call_is_spelled m ≡ true → call_at (call_spelling m ++ rest) ≡ Ok (m, rest)
+pub call_again : (m : Message) (rest : List ℕ) → message_in_range m ≡ true → call_is_spelled m ≡ true → call_at (call_spelling m ++ rest) ≡ Ok (m, rest)
 unfolding call_at call_spelling callee_spelling
 call_again m rest r s =
     let g = call_good m r s in
@@ -163,7 +163,7 @@ reply_envelope_again hops reply v rest h i r s vr vs =
     ∙ ap (λ (z : Reading Reply). z >>= λ x. value_at x.1 >>= λ y. Ok (envelope.Reply hops x.0 y.0, y.1)) (inner_again reply (spelling v ++ rest) i r s)
     ∙ ap (λ (z : Reading Value). z >>= λ y. Ok (envelope.Reply hops reply y.0, y.1)) (value_again v rest vr vs)
 
-universal : (n : Name) → is_universal n ≡ true → name_is_spelled n ≡ true → (u : Uan) × (n ≡ name.Uan u) × (is_uan u ≡ true)
+pub universal : (n : Name) → is_universal n ≡ true → name_is_spelled n ≡ true → (u : Uan) × (n ≡ name.Uan u) × (is_uan u ≡ true)
 unfolding name_is_spelled
 universal (name.Uan u) e s = (u, refl, s)
 universal (name.Anon theatre number) e s = absurd (true≢false (sym e))

@@ -36,7 +36,7 @@ call_is_good m n h vs r maker callee values reply =
     let few : values_are_spelled 16 (known_values (map Known vs)) ≡ true = ap (values_are_spelled 16) (known_again vs) ∙ values in
     and_true _ _ maker (and_true _ _ callee (and_true _ _ ready (and_true _ _ refl (and_true _ _ few reply))))
 
-call_found : (bytes : List ℕ) → IsBytes bytes → Holds (call_at bytes) (λ m rest. Takes bytes (call_spelling m) rest × (call_is_spelled m ≡ true))
+pub call_found : (bytes : List ℕ) → IsBytes bytes → Holds (call_at bytes) (λ m rest. Takes bytes (call_spelling m) rest × (call_is_spelled m ≡ true))
 unfolding call_at call_spelling callee_spelling
 call_found bytes small =
     then_holds _ _ (made_found bytes small) (λ m r1 p.

@@ -27,7 +27,7 @@ Keeps more (Err Memory) s = s ≡ Err Memory
 pub record Extends {A : Type 0} (more : List ℕ) (r s : Reading A) : Type 0 where
   pub fact : Keeps more r s
 
-then_extends : {A B : Type 0} {r s : Reading A} (more : List ℕ) (f g : A × List ℕ → Reading B)
+pub then_extends : {A B : Type 0} {r s : Reading A} (more : List ℕ) (f g : A × List ℕ → Reading B)
     → Extends more r s → ((x : A) (rest : List ℕ) → Extends more (f (x, rest)) (g (x, rest ++ more))) → Extends more (r >>= f) (s >>= g)
 then_extends {A} {B} {r} {s} more f g h k = go r s h k
   where
@@ -37,7 +37,7 @@ then_extends {A} {B} {r} {s} more f g h k = go r s h k
     go (Err (Bad left)) s h k = record { fact = ap (λ z. z >>= g) h.fact }
     go (Err Memory) s h k = record { fact = ap (λ z. z >>= g) h.fact }
 
-done_extends : {A : Type 0} (more : List ℕ) (x : A) (rest : List ℕ) → Extends more (Ok (x, rest)) (Ok (x, rest ++ more))
+pub done_extends : {A : Type 0} (more : List ℕ) (x : A) (rest : List ℕ) → Extends more (Ok (x, rest)) (Ok (x, rest ++ more))
 done_extends more x rest = record { fact = refl }
 
 pub cut_extends : {A : Type 0} (more : List ℕ) (s : Reading A) → Extends more (Err Cut) s
@@ -46,13 +46,13 @@ cut_extends more s = record { fact = tt }
 pub wrong_extends : {A : Type 0} (more field : List ℕ) → Extends more (wrong {A = A} field) (wrong (field ++ more))
 wrong_extends more field = record { fact = ap (λ n. Err (Bad n)) (length-append field more) }
 
-if_extends : {A : Type 0} {r r' s s' : Reading A} (more : List ℕ) (b : Bool) → Extends more r r' → Extends more s s' → Extends more (if b then r else s) (if b then r' else s')
+pub if_extends : {A : Type 0} {r r' s s' : Reading A} (more : List ℕ) (b : Bool) → Extends more r r' → Extends more s s' → Extends more (if b then r else s) (if b then r' else s')
 if_extends more true h k = h
 if_extends more false h k = k
 
 -- ---- fields
 
-byte_extends : (more bytes : List ℕ) → Extends more (byte_at bytes) (byte_at (bytes ++ more))
+pub byte_extends : (more bytes : List ℕ) → Extends more (byte_at bytes) (byte_at (bytes ++ more))
 byte_extends more [] = cut_extends more _
 byte_extends more (b ∷ rest) = done_extends more b rest
 
@@ -68,11 +68,11 @@ bytes_extends more n bytes = by_length (nat_lt (length bytes) n) refl
         let enough : nat_lt (length (bytes ++ more)) n ≡ false = le-ltb _ _ (omega (arith, length-append bytes more)) in
         record { fact = rw (enough, take-append-le n bytes more fits, drop-append-le n bytes more fits) refl }
 
-number_extends : (more : List ℕ) (w : Width) (bytes : List ℕ) → Extends more (number_at w bytes) (number_at w (bytes ++ more))
+pub number_extends : (more : List ℕ) (w : Width) (bytes : List ℕ) → Extends more (number_at w bytes) (number_at w (bytes ++ more))
 unfolding number_at
 number_extends more w bytes = then_extends more _ _ (bytes_extends more (byte_len w) bytes) (λ t rest. done_extends more (from_be_bytes w t) rest)
 
-bool_extends : (more bytes : List ℕ) → Extends more (bool_at bytes) (bool_at (bytes ++ more))
+pub bool_extends : (more bytes : List ℕ) → Extends more (bool_at bytes) (bool_at (bytes ++ more))
 unfolding bool_at
 bool_extends more bytes =
     then_extends more _ _ (byte_extends more bytes) (λ b rest.
@@ -93,11 +93,11 @@ left_extends more bytes (Err (fault.Bad place)) s h fits within =
     record { fact = ap (left_after (bytes ++ more)) h ∙ ap (λ n. Err (Bad n)) left }
 left_extends more bytes (Err fault.Memory) s h fits within = record { fact = ap (left_after (bytes ++ more)) h }
 
-name_extends : (more bytes : List ℕ) → Extends more (name_at bytes) (name_at (bytes ++ more))
+pub name_extends : (more bytes : List ℕ) → Extends more (name_at bytes) (name_at (bytes ++ more))
 unfolding name_at
 name_extends more bytes = left_extends more bytes (decoded_name bytes) (decoded_name (bytes ++ more)) (name_stays bytes more) (name_fits bytes) (name_place_fits bytes)
 
-value_extends : (more bytes : List ℕ) → Extends more (value_at bytes) (value_at (bytes ++ more))
+pub value_extends : (more bytes : List ℕ) → Extends more (value_at bytes) (value_at (bytes ++ more))
 unfolding value_at
 value_extends more bytes = left_extends more bytes (decoded_value bytes) (decoded_value (bytes ++ more)) (value_stays bytes more) (value_fits bytes) (value_place_fits bytes)
 
@@ -106,7 +106,7 @@ universal_extends more bytes rest (name.Uan u) = done_extends more u rest
 universal_extends more bytes rest (name.Anon theatre number) = wrong_extends more bytes
 universal_extends more bytes rest (name.Outside number) = wrong_extends more bytes
 
-uan_extends : (more bytes : List ℕ) → Extends more (uan_at bytes) (uan_at (bytes ++ more))
+pub uan_extends : (more bytes : List ℕ) → Extends more (uan_at bytes) (uan_at (bytes ++ more))
 unfolding uan_at
 uan_extends more bytes =
     then_extends more _ _ (byte_extends more bytes) (λ tag r1.
@@ -128,7 +128,7 @@ many_extends more (suc n) bytes =
     then_extends more _ _ (value_extends more bytes) (λ v r1.
     then_extends more _ _ (many_extends more n r1) (λ vs rest. done_extends more (v ∷ vs) rest))
 
-values_extends : (more : List ℕ) (most : ℕ) (bytes : List ℕ) → Extends more (values_at most bytes) (values_at most (bytes ++ more))
+pub values_extends : (more : List ℕ) (most : ℕ) (bytes : List ℕ) → Extends more (values_at most bytes) (values_at most (bytes ++ more))
 unfolding values_at
 values_extends more most bytes =
     then_extends more _ _ (byte_extends more bytes) (λ n rest. if_extends more (nat_lt most n) (wrong_extends more bytes) (many_extends more n rest))
@@ -159,7 +159,7 @@ inner_extends : (more bytes : List ℕ) → Extends more (inner_at bytes) (inner
 unfolding inner_at
 inner_extends more bytes = then_extends more _ _ (byte_extends more bytes) (λ kind rest. inner_by_extends more bytes kind rest)
 
-reply_extends : (more bytes : List ℕ) → Extends more (reply_at bytes) (reply_at (bytes ++ more))
+pub reply_extends : (more bytes : List ℕ) → Extends more (reply_at bytes) (reply_at (bytes ++ more))
 unfolding reply_at
 reply_extends more bytes =
     then_extends more _ _ (byte_extends more bytes) (λ kind rest.
@@ -167,13 +167,13 @@ reply_extends more bytes =
     (if_extends more (kind == 3) (then_extends more _ _ (number_extends more w64 rest) (λ n left. done_extends more (Outside n) left))
     (inner_by_extends more bytes kind rest)))
 
-handler_extends : (more bytes : List ℕ) → Extends more (handler_at bytes) (handler_at (bytes ++ more))
+pub handler_extends : (more bytes : List ℕ) → Extends more (handler_at bytes) (handler_at (bytes ++ more))
 unfolding handler_at
 handler_extends more bytes =
     then_extends more _ _ (number_extends more w16 bytes) (λ behavior r1.
     then_extends more _ _ (number_extends more w16 r1) (λ handler rest. done_extends more (behavior, handler) rest))
 
-call_extends : (more bytes : List ℕ) → Extends more (call_at bytes) (call_at (bytes ++ more))
+pub call_extends : (more bytes : List ℕ) → Extends more (call_at bytes) (call_at (bytes ++ more))
 unfolding call_at
 call_extends more bytes =
     then_extends more _ _ (made_extends more bytes) (λ m r1.

@@ -73,7 +73,7 @@ pub byte_found : (bytes : List ℕ) → IsBytes bytes → Holds (byte_at bytes) 
 byte_found [] small = fails_holds Cut _
 byte_found (b ∷ rest) small = done_holds b rest _ (record { parts = refl; rest_fits = bytes_tail b rest small })
 
-bytes_found : (n : ℕ) (bytes : List ℕ) → IsBytes bytes → Holds (bytes_at n bytes) (λ t rest. Takes bytes t rest × (length t ≡ n) × IsBytes t)
+pub bytes_found : (n : ℕ) (bytes : List ℕ) → IsBytes bytes → Holds (bytes_at n bytes) (λ t rest. Takes bytes t rest × (length t ≡ n) × IsBytes t)
 unfolding bytes_at
 bytes_found n bytes small =
     if_holds (nat_lt (length bytes) n) _ _ _ (λ short. fails_holds Cut _) (λ long.

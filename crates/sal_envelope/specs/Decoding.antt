@@ -294,7 +294,7 @@ fault_with_offset Cut size = fault.Cut
 fault_with_offset (Bad left) size = fault.Bad (size - left)
 fault_with_offset Memory size = fault.Memory
 
-abbrev pub with_offset : List ℕ → Reading Envelope → Result Envelope DecodeFault
+abbrev pub with_offset : {A : Type 0} → List ℕ → Reading A → Result A DecodeFault
 with_offset bytes (Ok x) = Ok x.0
 with_offset bytes (Err f) = Err (fault_with_offset f (length bytes))
 

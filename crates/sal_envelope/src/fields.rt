@@ -10,6 +10,7 @@ use sal_mail::Reply;
 use sal_value::{CloneIn, List, Name, NoMemory, Ual, Uan, Value};
 use std::alloc::Global;
 
+/// Adds a number in 2 bytes.
 #[tactic(auto, unfolding(crate::specs::Spelling::bytes_16))]
 pub fn put_16(number: u16, out: &mut List<u8>) -> Result<(), NoMemory>
     ensures { OnOk result (out.new ≡ out.old ++ bytes_16 number) }
@@ -17,6 +18,7 @@ pub fn put_16(number: u16, out: &mut List<u8>) -> Result<(), NoMemory>
     out.push_slice(&number.to_be_bytes())
 }
 
+/// Adds a number in 4 bytes.
 #[tactic(auto, unfolding(crate::specs::Spelling::bytes_32))]
 pub fn put_32(number: u32, out: &mut List<u8>) -> Result<(), NoMemory>
     ensures { OnOk result (out.new ≡ out.old ++ bytes_32 number) }
@@ -24,6 +26,7 @@ pub fn put_32(number: u32, out: &mut List<u8>) -> Result<(), NoMemory>
     out.push_slice(&number.to_be_bytes())
 }
 
+/// Adds a number in 8 bytes.
 #[tactic(auto, unfolding(crate::specs::Spelling::bytes_64))]
 pub fn put_64(number: u64, out: &mut List<u8>) -> Result<(), NoMemory>
     ensures { OnOk result (out.new ≡ out.old ++ bytes_64 number) }
@@ -31,6 +34,7 @@ pub fn put_64(number: u64, out: &mut List<u8>) -> Result<(), NoMemory>
     out.push_slice(&number.to_be_bytes())
 }
 
+/// Adds a universal name.
 #[tactic(auto, using(crate::proofs::Parts::uan_is_spelled))]
 pub fn put_uan(alloc: Global, uan: &Uan, out: &mut List<u8>) -> Result<(), NoMemory>
     requires { is_uan uan.now ≡ true }
@@ -88,6 +92,7 @@ pub fn put_made(
     put_64(serial, out)
 }
 
+/// Adds to whom a reply is owed.
 #[tactic(auto, using(crate::proofs::Parts::tagged, crate::proofs::Parts::tagged_two), unfolding(crate::specs::Spelling::reply_spelling, crate::specs::Spelling::reply_is_spelled))]
 pub fn put_reply(alloc: Global, reply: &Reply, out: &mut List<u8>) -> Result<(), NoMemory>
     requires { reply_is_spelled reply.now ≡ true }

@@ -24,8 +24,9 @@ fn pieces(alloc: Global, values: List<Value>) -> Result<List<Piece>, NoMemory>
     Ok(pieces)
 }
 
+/// A call, after its hops.
 #[tactic(auto, unfolding(crate::specs::Decoding::call_at))]
-fn call(alloc: Global, bytes: &[u8]) -> Result<(Message, &[u8]), Fault>
+pub fn call(alloc: Global, bytes: &[u8]) -> Result<(Message, &[u8]), Fault>
     ensures { ReadsAs (λ x. (x.0, x.1.now)) result (call_at bytes.now) }
 {
     let ((maker, serial), rest) = front::made(alloc, bytes)?;
@@ -165,7 +166,7 @@ fn envelope(alloc: Global, bytes: &[u8]) -> Result<(Envelope, &[u8]), Fault>
 }
 
 /// What was read, where nothing is left.
-fn if_none_left<T: Drop>(item: T, rest: &[u8]) -> Result<T, Fault>
+pub fn if_none_left<T: Drop>(item: T, rest: &[u8]) -> Result<T, Fault>
     ensures { ReadsAs (λ x. (x, [])) result (if_none_left item rest.now) }
 {
     match rest {
@@ -182,7 +183,8 @@ fn whole(alloc: Global, bytes: &[u8]) -> Result<Envelope, Fault>
     if_none_left(envelope, rest)
 }
 
-fn with_offset(fault: Fault, size: usize) -> DecodeFault
+/// The fault with the place of the field that is wrong, where so many bytes were given.
+pub fn fault_with_offset(fault: Fault, size: usize) -> DecodeFault
     ensures { result ≡ fault_with_offset fault size }
 {
     match fault {
@@ -200,6 +202,6 @@ pub fn decode(alloc: Global, bytes: &[u8]) -> Result<Envelope, DecodeFault>
 {
     match whole(alloc, bytes) {
         Ok(envelope) => Ok(envelope),
-        Err(fault) => Err(with_offset(fault, bytes.len())),
+        Err(fault) => Err(fault_with_offset(fault, bytes.len())),
     }
 }

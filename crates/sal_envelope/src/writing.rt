@@ -27,8 +27,9 @@ fn put_handler(behavior: u16, handler: u16, out: &mut List<u8>) -> Result<(), No
     fields::put_16(handler, out)
 }
 
+/// Adds a call, as it stands after its hops.
 #[tactic(auto, using(crate::proofs::Parts::five_parts, crate::proofs::Parts::call_parts), unfolding(crate::specs::Spelling::call_spelling))]
-fn put_call(alloc: Global, message: &Message, out: &mut List<u8>) -> Result<(), NoMemory>
+pub fn put_call(alloc: Global, message: &Message, out: &mut List<u8>) -> Result<(), NoMemory>
     requires { call_is_spelled message.now ≡ true }
     ensures { OnOk result (out.new ≡ out.old ++ call_spelling message.now) }
 {
