@@ -15,7 +15,13 @@ newly_acknowledged wanted l = if tells_more wanted l then wanted - l.acknowledge
 
 -- the link once the last fragment of an envelope came, with which so many more are acknowledged
 unfoldable pub complete : ℕ → Link → Link
-complete count l = record l { acknowledged = l.acknowledged + count; unacknowledged = drop count l.unacknowledged; wanted = l.wanted + 1; part = []; owes = true }
+complete count l = record l {
+  acknowledged = l.acknowledged + count;
+  unacknowledged = drop count l.unacknowledged;
+  wanted = l.wanted + 1;
+  part = [];
+  owes = true;
+}
 
 -- the frame is the last one of the envelope that the link takes
 abbrev pub completes : Frame → Link → Bool
@@ -54,7 +60,11 @@ withdraw count l = record l { unacknowledged = take count l.unacknowledged }
 
 -- An envelope may be offered between the halves of taking another one, and an offer that is withdrawn changes nothing.
 pub record HalvesCommute : Type 0 where
-  pub offers : (count : ℕ) (l : Link) (envelope : List ℕ) → CanComplete count l → complete count (offer envelope l) ≡ offer envelope (complete count l)
-  pub room : (count : ℕ) (l : Link) (envelope : List ℕ) → CanComplete count l → has_room envelope (complete count l) ≡ has_room envelope l
+  pub offers :
+      (count : ℕ) (l : Link) (envelope : List ℕ) → CanComplete count l
+      → complete count (offer envelope l) ≡ offer envelope (complete count l)
+  pub room :
+      (count : ℕ) (l : Link) (envelope : List ℕ) → CanComplete count l
+      → has_room envelope (complete count l) ≡ has_room envelope l
   pub can : (count : ℕ) (l : Link) (envelope : List ℕ) → CanComplete count l → CanComplete count (offer envelope l)
   pub withdrawn : (l : Link) (envelope : List ℕ) → withdraw (length l.unacknowledged) (offer envelope l) ≡ l
