@@ -51,7 +51,7 @@ fails_more test xs i lt fails h =
     let ys : List ℕ = drop (i + 1) xs in
     record {
       front = h.front ∙ ap (λ (z : List ℕ). take i xs ++ until test z) (next test xs i lt) ∙ ap (λ (z : List ℕ). take i xs ++ z) (here_until test b ys false fails)
-        ∙ sym (append_assoc (take i xs) (b ∷ []) (until test ys)) ∙ ap (λ (z : List ℕ). z ++ until test ys) (sym (take_more xs i 0 lt));
+          ∙ sym (append_assoc (take i xs) (b ∷ []) (until test ys)) ∙ ap (λ (z : List ℕ). z ++ until test ys) (sym (take_more xs i 0 lt));
       rest = h.rest ∙ ap (from_first test) (next test xs i lt) ∙ here_rest test b ys false fails;
     }
 

@@ -14,7 +14,11 @@ fn hex_digit(value: u8) -> u8
     requires { value < 16 }
     ensures { result ≡ digit_char value }
 {
-    if value < 10 { b'0' + value } else { b'W' + value }
+    if value < 10 {
+        b'0' + value
+    } else {
+        b'W' + value
+    }
 }
 
 /// Adds a byte of a quoted text.
