@@ -191,7 +191,7 @@ new_parts env at b args place s h =
 
 -- ---- each form
 
-abbrev verdict_of_form : Expr-F Expr Suffix At Operand → ExprTyping
+abbrev pub verdict_of_form : Expr-F Expr Suffix At Operand → ExprTyping
 verdict_of_form z = typing.expr_step (map-Expr Expr Suffix At Operand ExprTyping SuffixTyping LocationTyping OperandTyping expr_verdict suffix_verdict at_verdict operand_verdict z)
 
 number_fits : (n : ℕ) (minus : Bool) → (minus || not (nat_eq n 2147483648)) ≡ true → (minus ≡ true) ⊎ (n ≡ 2147483648 → ⊥)
@@ -248,7 +248,7 @@ form_parts (Expr-F.ByName at cast b name) env minus s h =
     let one = and_parts (has_behavior b.text env) (is_text_sort n.part) two.0 in
     (n.typed ∙ ap (λ x. Good x) (text_is n.part one.1), only, one.0, two.1, n.is)
 
-verdict_is : (e : Expr) → expr_verdict e ≡ verdict_of_form (out-Expr e)
+pub verdict_is : (e : Expr) → expr_verdict e ≡ verdict_of_form (out-Expr e)
 unfolding expr_verdict suffix_verdict at_verdict operand_verdict
 verdict_is e =
     ap expr_verdict (sym (rolled_expr e))

@@ -1,16 +1,24 @@
 -- The parts of a typed message, and what it replies.
-use Rattle.std.proofs.Common.{◌≡◌, inl, ℕ, ◌≤◌, Bool, true, false, ◌&&◌, cond, nat_eq, nat_le, codes, List, [], ◌∷◌, ◌++◌, length, Option, Some, None, option_map, refl, sym, ap, subst, ◌∙◌, arith}
+use Rattle.std.proofs.Common.{◌≡◌, ◌⊎◌, inl, inr, ℕ, ◌≤◌, Bool, true, false, not, ◌&&◌, cond, nat_eq, nat_le, codes, List, [], ◌∷◌, ◌++◌, length, Option, Some, None, option_map, refl, sym, ap, subst, ◌∙◌, arith}
 use Rattle.std.specs.Prelude.{slice_get}
 use Rattle.std.specs.List.{find}
 use Rattle.std.specs.Str.{bytes_eq}
 use Rattle.std.proofs.lemmas.Bool.{and_parts, leb-true, eqb-true}
 use Rattle.sal_value.specs.declared.value.Base.TheVariants as meant
 use Rattle.sal_value.specs.declared.value.Sort.{Sort as MeantSort}
+use Rattle.sal_ast.specs.declared.program.Ident.{Ident}
 use Rattle.sal_ast.specs.declared.program.Behavior.{Behavior}
+use Rattle.sal_ast.specs.declared.expression.Expr.{Expr, out-Expr}
+use Rattle.sal_ast.specs.declared.expression.Suffix.{Suffix}
+use Rattle.sal_ast.specs.declared.expression.At.{At}
+use Rattle.sal_ast.specs.declared.expression.Operand.{Operand}
+use Rattle.sal_ast.specs.declared.expression.Expr.TheOpen.{Expr-F}
 use Rattle.sal_ast.specs.declared.statement.Aim.{Aim}
 use Rattle.sal_ast.specs.declared.statement.Aim.TheVariants as aim
 use Rattle.sal_ast.specs.declared.statement.Arg.{Arg}
+use Rattle.sal_ast.specs.declared.statement.Arg.TheVariants as arg
 use Rattle.sal_ast.specs.declared.statement.Property.{Property}
+use Rattle.sal_ast.specs.declared.statement.Property.TheVariants as property
 use Rattle.sal_ast.specs.declared.statement.Send.{Send}
 use Rattle.sal_ast.specs.Members.{Handler, behavior_by_name, handlers_at}
 use Rattle.sal_ast.specs.Sorts as text
@@ -18,29 +26,94 @@ use Rattle.sal_ast.specs.Sorts.{Scope, sort_of, sort_with, result_sort, behavior
 use Rattle.sal_sorts.specs.declared.sort.Base.{Base}
 use Rattle.sal_sorts.specs.declared.sort.Base.TheVariants.{Int, Boolean, Str, Actor, Void, Null}
 use Rattle.sal_sorts.specs.declared.sort.Sort.{Sort}
-use Rattle.sal_sorts.specs.Sorts.{plain, is_printable_sort, sort_of_result}
-use Rattle.sal_sorts.specs.Environments.{Environment, HandlerType, behavior_with_name, has_behavior, is_actor_base, is_actor_sort, is_assignable, are_assignable, handlers_in, type_of_handler, migrate_type, is_migrate, handler_with_name}
-use Rattle.sal_sorts.specs.Expressions.{expr_verdict}
-use Rattle.sal_sorts.specs.Messages.{arg_verdict, property_verdict, repetition_rules, repetition_offset, aim_verdict, target_rules, handler_rules, argument_rules, first_misfit_rules, handler_of_base, called_handler, call_rules, actor_rules, call_result, is_print, print_rules, send_rules, reply_sort, message_verdict}
-use Rattle.sal_sorts.specs.Verdicts.{Violation, Verdict, Good, ◌also◌, verdict_of_all}
+use Rattle.sal_sorts.specs.declared.variable.Variable.{Variable}
+use Rattle.sal_sorts.specs.Sorts.{plain, is_int_sort, is_printable_sort, sort_of_result}
+use Rattle.sal_sorts.specs.Environments.{Environment, HandlerType, behavior_with_name, has_behavior, is_actor_base, is_actor_sort, is_assignable, are_assignable, handlers_in, type_of_handler, migrate_type, is_migrate, handler_with_name, local_with_name, field_in_scope, or_else, variable_with_name}
+use Rattle.sal_sorts.specs.Expressions.{ExprTyping, token_rules, variable_verdict, expr_verdict}
+use Rattle.sal_sorts.specs.Messages.{or_void, first_stage_rules, local_of_expr, local_or_verdict, arg_verdict, property_rules, waitfor_rules, waitfor_verdict, property_verdict, repetition_rules, repetition_offset, aim_verdict, target_rules, handler_rules, argument_rules, first_misfit_rules, handler_of_base, called_handler, call_rules, actor_rules, call_result, is_print, print_rules, send_rules, reply_sort, message_verdict}
+use Rattle.sal_sorts.specs.Verdicts.{Violation, Verdict, Good, ◌also◌, good_unless, verdict_of_all}
 use Rattle.sal_typing.specs.Numbers.{number_sort, scope_of}
 use Rattle.sal_typing.specs.Known.{Each, HandlerIsKnown, MembersAreKnown, IsReplySort, IsKnown}
-use Rattle.sal_typing.specs.Parts.{Pairwise, ArgHasSort, IsCall, AimParts}
+use Rattle.sal_typing.specs.Parts.{Pairwise, HasSort, IsTokenOf, ArgParts, NamesToken, PropertyParts, IsCall, AimParts}
 use Rattle.sal_typing.specs.Laws.{MessagesHaveParts, MessagesHaveTheirSorts}
-use Rattle.sal_typing.proofs.Inverting.{good_is, some_is, also_parts, node_parts, map_parts, rule_holds, none_left}
+use Rattle.sal_typing.proofs.Inverting.{good_is, some_is, also_parts, node_parts, unless_parts, map_parts, rule_holds, none_left, none_right}
 use Rattle.sal_typing.proofs.Finding.{each_found, each_at}
 use Rattle.sal_typing.proofs.Numbering.{number_of_known, number_of_result, result_is_reply}
-use Rattle.sal_typing.proofs.ExpressionParts.{each_parts}
+use Rattle.sal_typing.proofs.ExpressionParts.{int_is, each_parts, verdict_of_form, verdict_is}
 use Rattle.sal_typing.proofs.Expressions.{behavior_numbered, expr_agrees}
+
+-- ---- arguments
+
+pub not_none : (v : Violation) (vs : List Violation) → v ∷ vs ≡ [] → ⊥
+not_none v vs h = absurd cc
+
+-- an argument has this type
+abbrev ArgHasSort : Environment → Option Sort → Arg → Sort → Type 0
+ArgHasSort env before a s = arg_verdict env before a ≡ Good s
+
+local_is_variable : (name : List ℕ) (env : Environment) (v : Variable) → local_with_name name env ≡ Some v → variable_with_name name env ≡ Some v
+unfolding variable_with_name
+local_is_variable name env v e = ap (λ o. or_else o (field_in_scope env.member name env)) e
+
+local_has_sort : (e : Expr) (env : Environment) (name : Ident) (v : Variable) → out-Expr e ≡ Expr-F.Name name → local_with_name name.text env ≡ Some v → v.is_token ≡ false → HasSort env e v.sort
+local_has_sort e env name v is f plain_value =
+    ap (λ (m : ExprTyping). m env false) (verdict_is e)
+    ∙ ap (λ z. verdict_of_form z env false) is
+    ∙ ap (variable_verdict name.at) (local_is_variable name.text env v f)
+    ∙ ap (λ b. good_unless (token_rules name.at (not b)) v.sort) plain_value
+
+named_parts : (e : Expr) (env : Environment) (name : Ident) (s : Sort) → out-Expr e ≡ Expr-F.Name name → (o : Option Variable) → local_with_name name.text env ≡ o → local_or_verdict o (expr_verdict e env false) ≡ Good s → IsTokenOf e env s ⊎ HasSort env e s
+named_parts e env name s is None f g = inr g
+named_parts e env name s is (Some v) f g = by v.is_token refl
+  where
+    by : (b : Bool) → v.is_token ≡ b → IsTokenOf e env s ⊎ HasSort env e s
+    by true k = inl (name, v, is, f, k, good_is v.sort s g)
+    by false k = inr (local_has_sort e env name v is f k ∙ g)
+
+arg_form : (e : Expr) (env : Environment) (s : Sort) (z : Expr-F Expr Suffix At Operand) → out-Expr e ≡ z → local_or_verdict (local_of_expr z env) (expr_verdict e env false) ≡ Good s → IsTokenOf e env s ⊎ HasSort env e s
+arg_form e env s (Expr-F.Name name) is h = named_parts e env name s is (local_with_name name.text env) refl h
+arg_form e env s _ is h = inr h
+
+arg_parts : (env : Environment) (before : Option Sort) (a : Arg) (s : Sort) → arg_verdict env before a ≡ Good s → ArgParts env before a s
+arg_parts env None (arg.Token at) s h = let r = unless_parts (first_stage_rules at None) (or_void None) s h in absurd (not_none _ [] r.0)
+arg_parts env (Some t) (arg.Token at) s h = ap (λ x. Some x) (unless_parts (first_stage_rules at (Some t)) (or_void (Some t)) s h).1
+arg_parts env before (arg.Expr e) s h = arg_form e env s (out-Expr e) refl h
+
+args_parts : (env : Environment) (before : Option Sort) (list : List Arg) (ss : List Sort) → Pairwise (ArgHasSort env before) list ss → Pairwise (ArgParts env before) list ss
+args_parts env before [] [] h = tt
+args_parts env before [] (s ∷ ss) h = h
+args_parts env before (a ∷ list) [] h = h
+args_parts env before (a ∷ list) (s ∷ ss) h = (arg_parts env before a s h.0, args_parts env before list ss h.1)
+
+-- ---- properties
+
+waitfor_holds : (at : ℕ) (o : Option Variable) → waitfor_rules at o ≡ [] → (v : Variable) × (o ≡ Some v) × (v.is_token ≡ true)
+waitfor_holds at None h = absurd (not_none _ [] h)
+waitfor_holds at (Some v) h = (v, refl, rule_holds 11 at v.is_token h)
+
+name_tokens : (env : Environment) (names : List Ident) (us : List (Unit {0})) → Pairwise (λ name u. waitfor_verdict env name ≡ Good u) names us → Each (NamesToken env) names
+name_tokens env [] us h = tt
+name_tokens env (n ∷ ns) [] h = absurd h
+name_tokens env (n ∷ ns) (u ∷ us) h =
+    (waitfor_holds n.at (variable_with_name n.text env) (unless_parts (waitfor_rules n.at (variable_with_name n.text env)) tt u h.0).0, name_tokens env ns us h.1)
+
+property_parts : (env : Environment) (q : Property) (u : Unit {0}) → property_verdict env q ≡ Good u → PropertyParts env q
+property_parts env (property.Delay at time) u h =
+    let n = node_parts (expr_verdict time env false) (λ s. property_rules at (is_int_sort s)) (λ s. tt) u h in
+    n.typed ∙ ap (λ x. Good x) (int_is n.part (rule_holds 28 at (is_int_sort n.part) n.keeps))
+property_parts env (property.WaitFor at names) u h =
+    let r = map_parts (λ us. tt) (verdict_of_all (waitfor_verdict env) names) u h in
+    name_tokens env names r.0 (each_parts (waitfor_verdict env) names r.0 r.1)
+
+never_again : (o : Option ℕ) → repetition_rules o ≡ [] → o ≡ None
+never_again None h = refl
+never_again (Some at) h = absurd (not_none _ [] h)
 
 -- ---- rules
 
 pub if_none : (b : Bool) (xs ys : List Violation) → cond b xs ys ≡ [] → (ys ≡ [] → ⊥) → (b ≡ true) × (xs ≡ [])
 if_none true xs ys h other = (refl, h)
 if_none false xs ys h other = absurd (other h)
-
-pub not_none : (v : Violation) (vs : List Violation) → v ∷ vs ≡ [] → ⊥
-not_none v vs h = absurd cc
 
 fits_all : (env : Environment) (before : Option Sort) (list : List Arg) (ss ts : List Sort) → Pairwise (ArgHasSort env before) list ss → length ts ≡ length ss → first_misfit_rules env list ss ts ≡ [] → are_assignable env ss ts ≡ true
 fits_all env before [] [] [] p l h = refl
@@ -130,10 +203,10 @@ aim_parts env few before m (aim.Actor e) target args reply p v h r =
     let c = call_parts env few before m i.0 args reply p (ap (λ t. send_rules m t args env) i.2 ∙ h) (ap (λ t. reply_sort m t env) i.2 ∙ r) in
     (c.name, i.1 ∙ ap (λ s. Good s) c.is, c.call)
 
-properties_hold : (env : Environment) (ps : List Property) (us : List (Unit {0})) → Pairwise (λ q u. property_verdict env q ≡ Good u) ps us → Each (λ q. property_verdict env q ≡ Good tt) ps
+properties_hold : (env : Environment) (ps : List Property) (us : List (Unit {0})) → Pairwise (λ q u. property_verdict env q ≡ Good u) ps us → Each (PropertyParts env) ps
 properties_hold env [] us h = tt
 properties_hold env (p ∷ ps) [] h = absurd h
-properties_hold env (p ∷ ps) (u ∷ us) h = (h.0, properties_hold env ps us h.1)
+properties_hold env (p ∷ ps) (u ∷ us) h = (property_parts env p u h.0, properties_hold env ps us h.1)
 
 pub message_parts : MessagesHaveParts
 unfolding message_verdict
@@ -147,8 +220,9 @@ message_parts env few m before s h =
     let have = each_parts (arg_verdict env before) m.args n.part.0.1 two.right in
     record {
       args = n.part.0.1;
-      have = have;
+      have = args_parts env before m.args n.part.0.1 have;
       properties = properties_hold env m.properties n.part.1 (each_parts (property_verdict env) m.properties n.part.1 both.right);
+      once = never_again (repetition_offset false false m.properties) (none_right (send_rules m n.part.0.0 n.part.0.1 env) (repetition_rules (repetition_offset false false m.properties)) n.keeps);
       target = aim_parts env few before m m.aim n.part.0.0 n.part.0.1 s have two.left (none_left (send_rules m n.part.0.0 n.part.0.1 env) (repetition_rules (repetition_offset false false m.properties)) n.keeps) n.is;
     }
 

@@ -1,7 +1,8 @@
 -- What is known of the parts of an expression, a message or a statement in which nothing is violated.
 use Rattle.std.specs.Prelude.{◌≡◌, ◌≤◌, ◌⊎◌, ℕ, Bool, true, false, List, [], ◌∷◌, length, Option, Some, None}
+use Rattle.sal_ast.specs.declared.program.Ident.{Ident}
 use Rattle.sal_ast.specs.declared.program.TypeName.{TypeName}
-use Rattle.sal_ast.specs.declared.expression.Expr.{Expr}
+use Rattle.sal_ast.specs.declared.expression.Expr.{Expr, out-Expr}
 use Rattle.sal_ast.specs.declared.expression.Suffix.{Suffix, out-Suffix}
 use Rattle.sal_ast.specs.declared.expression.At.{At}
 use Rattle.sal_ast.specs.declared.expression.Operand.{Operand}
@@ -9,15 +10,18 @@ use Rattle.sal_ast.specs.declared.expression.Expr.TheOpen.{Expr-F, Suffix-F}
 use Rattle.sal_ast.specs.declared.statement.Aim.{Aim}
 use Rattle.sal_ast.specs.declared.statement.Aim.TheVariants as aim
 use Rattle.sal_ast.specs.declared.statement.Arg.{Arg}
+use Rattle.sal_ast.specs.declared.statement.Arg.TheVariants as arg
+use Rattle.sal_ast.specs.declared.statement.Property.{Property}
+use Rattle.sal_ast.specs.declared.statement.Property.TheVariants as property
 use Rattle.sal_ast.specs.declared.statement.Send.{Send}
 use Rattle.sal_ast.specs.Members.{behavior_by_name}
 use Rattle.sal_sorts.specs.declared.sort.Base.TheVariants.{Int, Boolean, Str, Actor, Void, Null}
 use Rattle.sal_sorts.specs.declared.sort.Sort.{Sort}
 use Rattle.sal_sorts.specs.declared.variable.Variable.{Variable}
 use Rattle.sal_sorts.specs.Sorts.{plain, is_printable_sort, is_array_sort, item_sort}
-use Rattle.sal_sorts.specs.Environments.{Environment, HandlerType, behavior_with_name, has_behavior, is_assignable, are_assignable, handler_with_name, constructor_accepts, field_with_name, variable_with_name, is_handler}
+use Rattle.sal_sorts.specs.Environments.{Environment, HandlerType, behavior_with_name, has_behavior, is_assignable, are_assignable, handler_with_name, constructor_accepts, field_with_name, local_with_name, variable_with_name, is_handler}
 use Rattle.sal_sorts.specs.Expressions.{operands_fit, operator_sort, cast_fits, type_verdict, expr_verdict}
-use Rattle.sal_sorts.specs.Messages.{arg_verdict, property_verdict, is_print}
+use Rattle.sal_sorts.specs.Messages.{repetition_offset, is_print}
 use Rattle.sal_sorts.specs.Verdicts.{Good}
 use Rattle.sal_typing.specs.Known.{Each}
 
@@ -92,9 +96,24 @@ ExprParts (Expr-F.ByName at cast b name) env minus s =
 
 -- ---- messages
 
--- an argument has this type, behind a stage with this result
-abbrev pub ArgHasSort : Environment → Option Sort → Arg → Sort → Type 0
-ArgHasSort env before a s = arg_verdict env before a ≡ Good s
+-- a local token alone, which waits for a value of this type
+abbrev pub IsTokenOf : Expr → Environment → Sort → Type 0
+IsTokenOf e env s =
+    (name : Ident) × (v : Variable) × (out-Expr e ≡ Expr-F.Name name) × (local_with_name name.text env ≡ Some v) × (v.is_token ≡ true) × (v.sort ≡ s)
+
+-- an argument of this type, behind a stage with this result: `token`, a local token, or a value
+abbrev pub ArgParts : Environment → Option Sort → Arg → Sort → Type 0
+ArgParts env before (arg.Token at) s = before ≡ Some s
+ArgParts env before (arg.Expr e) s = IsTokenOf e env s ⊎ HasSort env e s
+
+-- a name of a token
+abbrev pub NamesToken : Environment → Ident → Type 0
+NamesToken env name = (v : Variable) × (variable_with_name name.text env ≡ Some v) × (v.is_token ≡ true)
+
+-- a property
+abbrev pub PropertyParts : Environment → Property → Type 0
+PropertyParts env (property.Delay at time) = HasSort env time (plain Int)
+PropertyParts env (property.WaitFor at names) = Each (NamesToken env) names
 
 -- a message to an actor of the behaviour of this name, with arguments of these types: there is such a handler, which takes
 -- them and replies this
@@ -117,6 +136,8 @@ AimParts (aim.Actor e) env handler args reply = (behavior : List ℕ) × HasSort
 -- a message, behind a stage with this result, with this reply
 pub record MessageParts (env : Environment) (before : Option Sort) (m : Send) (reply : Sort) : Type 0 where
   pub args : List Sort
-  pub have : Pairwise (ArgHasSort env before) m.args args
-  pub properties : Each (λ q. property_verdict env q ≡ Good tt) m.properties
+  pub have : Pairwise (ArgParts env before) m.args args
+  pub properties : Each (PropertyParts env) m.properties
+  -- no property occurs a second time
+  pub once : repetition_offset false false m.properties ≡ None
   pub target : AimParts m.aim env m.handler.text args reply
