@@ -1,0 +1,13 @@
+pub mod Again
+pub mod Appending
+pub mod Cutting
+pub mod Decimals
+pub mod Equations
+pub mod Found
+pub mod Ints
+pub mod Items
+pub mod Quotes
+pub mod Scalars
+pub mod Scanned
+pub mod Steps
+pub mod UniversalNames

@@ -1,0 +1,4 @@
+pub mod code
+pub mod Laws
+pub mod Reading
+pub mod Texts
