@@ -1,5 +1,5 @@
 -- What is printed is read.
-use Rattle.std.proofs.Common.{◌≡◌, ℕ, ℤ, zero, suc, ◌+◌, ◌-◌, ◌^◌, ◌<◌, ◌≤◌, ◌==◌, Bool, true, false, ◌&&◌, ◌||◌, Option, Some, None, List, [], ◌∷◌, ◌++◌, length, drop, refl, sym, ap, subst, ◌∙◌, append_assoc, append-nil, arith}
+use Rattle.std.proofs.Common.{◌≡◌, ℕ, ℤ, zero, suc, ◌+◌, ◌<◌, ◌≤◌, ◌==◌, Bool, true, false, ◌&&◌, Option, Some, None, List, [], ◌∷◌, ◌++◌, length, drop, refl, sym, ap, subst, ◌∙◌, append_assoc, append-nil, arith}
 use Rattle.std.specs.Prelude.{if◌then◌else◌, codes}
 use Rattle.std.specs.Fmt.{signed_decimal}
 use Rattle.std.specs.List.{list_all, flat_map}
@@ -19,7 +19,7 @@ use Rattle.sal_literals.specs.Texts.{escape, quoted_text, value_text, is_literal
 use Rattle.sal_literals.specs.code.Scanning.{Reading, ◌>>=◌, quoted_at}
 use Rattle.sal_literals.specs.Reading.{int_of, name_of, ends_word, scalar_of, word_value, with_rest, flat_at, separator_at, items_at, is_closed, array_at, is_array, value_by, value_at, if_whole, value_of}
 use Rattle.sal_literals.proofs.Equations.{text_null, text_int, text_bool, text_str, text_ref, text_array, others_text, items_text, literal_int, literal_str, literal_ref, literal_flat, literal_array}
-use Rattle.sal_literals.proofs.Ints.{Begins, int_begins, int_word, int_again}
+use Rattle.sal_literals.proofs.Ints.{int_begins, int_word, int_again}
 use Rattle.sal_literals.proofs.Scalars.{is_word_byte, word_none, until_at, rest_at, name_word, name_again}
 use Rattle.sal_literals.proofs.Scanned.{quoted_again}
 

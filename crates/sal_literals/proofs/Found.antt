@@ -1,7 +1,6 @@
 -- What is read was printed.
 use Rattle.std.proofs.Common.{◌≡◌, ℕ, ℤ, zero, suc, ◌==◌, Bool, true, false, ◌&&◌, Option, Some, None, List, [], ◌∷◌, ◌++◌, drop, length, refl, sym, ap, subst, ◌∙◌, append_assoc, append-nil}
 use Rattle.std.specs.Prelude.{if◌then◌else◌, codes}
-use Rattle.std.specs.Fmt.{signed_decimal}
 use Rattle.std.specs.List.{list_all, flat_map}
 use Rattle.std.specs.Option.{option_map}
 use Rattle.std.specs.Str.{is_utf8, bytes_eq}
@@ -10,9 +9,9 @@ use Rattle.std.proofs.lemmas.Slice.Eq.{bytes_eq-Decides}
 use Rattle.sal_value.specs.declared.name.Name.{Name}
 use Rattle.sal_value.specs.declared.value.Value.{Value}
 use Rattle.sal_value.specs.declared.value.Value.TheVariants as v
-use Rattle.sal_value.specs.Names.{name_text, until, from_first}
+use Rattle.sal_value.specs.Names.{until, from_first}
 use Rattle.sal_value.specs.Spelling.{name_is_spelled}
-use Rattle.sal_value.specs.Coding.{is_i32, name_in_range}
+use Rattle.sal_value.specs.Coding.{name_in_range}
 use Rattle.sal_literals.specs.Texts.{escape, quoted_text, value_text, is_literal_at, is_literal}
 use Rattle.sal_literals.specs.code.Scanning.{Reading, ◌>>=◌, quoted_at}
 use Rattle.sal_literals.specs.Reading.{int_of, name_of, ends_word, scalar_of, word_value, with_rest, flat_at, separator_at, items_at, is_closed, array_at, is_array, value_by, value_at, if_whole, value_of}

@@ -1,8 +1,7 @@
 -- Numbers, names and words are read as they are printed.
-use Rattle.std.proofs.Common.{◌≡◌, ◌⊎◌, inl, inr, ℕ, ℤ, pos, negsuc, zero, suc, ◌+◌, ◌-◌, ◌^◌, ◌<◌, ◌≤◌, ◌==◌, Bool, true, false, ◌&&◌, ◌||◌, not, Option, Some, None, List, [], ◌∷◌, ◌++◌, length, get_or, take, drop, map, refl, sym, ap, subst, ◌∙◌, append_assoc, arith}
+use Rattle.std.proofs.Common.{◌≡◌, ℕ, ◌^◌, ◌<◌, ◌≤◌, ◌==◌, Bool, true, false, ◌&&◌, ◌||◌, not, Option, Some, None, List, [], ◌∷◌, ◌++◌, length, take, drop, refl, sym, ap, subst, ◌∙◌, arith}
 use Rattle.std.specs.Prelude.{if◌then◌else◌, nat_le, nat_lt, codes}
-use Rattle.std.specs.Char.{to_ascii_lowercase}
-use Rattle.std.specs.Fmt.{decimal, signed_decimal}
+use Rattle.std.specs.Fmt.{decimal}
 use Rattle.std.specs.List.{list_all}
 use Rattle.std.specs.Option.{option_map}
 use Rattle.std.specs.Str.{bytes_eq}
@@ -16,16 +15,14 @@ use Rattle.std.proofs.lemmas.Str.Parse.{digit_from_value}
 use Rattle.sal_value.specs.declared.name.Uan.{Uan}
 use Rattle.sal_value.specs.declared.name.Name.{Name}
 use Rattle.sal_value.specs.declared.name.Name.TheVariants as name
-use Rattle.sal_value.specs.declared.value.Value.{Value}
-use Rattle.sal_value.specs.declared.value.Value.TheVariants as v
 use Rattle.sal_value.specs.Names.{lower_case, uan_text, name_text, is_uan, is_host, is_port, is_path, is_uan_path, is_host_byte, is_path_byte, NonePass, FirstPasses, until, from_first, is_colon}
 use Rattle.sal_value.specs.Spelling.{name_is_spelled}
-use Rattle.sal_value.specs.Coding.{is_i32, name_in_range}
+use Rattle.sal_value.specs.Coding.{name_in_range}
 use Rattle.sal_value.specs.Decoding.{canonical_uan}
 use Rattle.sal_value.proofs.Bytes.{both, host_parts, path_parts}
 use Rattle.sal_value.proofs.Canonical.{some_if, uan_of_is, uan_of_text}
 use Rattle.sal_value.proofs.Readings.{host_stays, port_range}
-use Rattle.sal_literals.specs.Reading.{number_of, not_negative, negative, int_of, after_prefix, anon_of, name_by, name_of, ends_word}
+use Rattle.sal_literals.specs.Reading.{number_of, after_prefix, anon_of, name_by, name_of, ends_word}
 use Rattle.sal_literals.proofs.Decimals.{number_is, number_again}
 
 -- ---- cutting at a byte

@@ -1,10 +1,10 @@
 -- Reading a text in quotes byte by byte, as a loop does.
-use Rattle.std.proofs.Common.{◌≡◌, ℕ, Option, Some, None, List, [], ◌∷◌, ◌++◌, refl, sym, ap, ◌∙◌, append_assoc, append-nil}
+use Rattle.std.proofs.Common.{◌≡◌, ℕ, Some, None, List, [], ◌∷◌, ◌++◌, refl, sym, ap, ◌∙◌, append_assoc, append-nil}
 use Rattle.sal_literals.specs.declared.quoted.Position.{Position}
 use Rattle.sal_literals.specs.declared.quoted.Position.TheVariants.{Plain}
 use Rattle.sal_literals.specs.declared.quoted.Scan.{Scan}
 use Rattle.sal_literals.specs.declared.quoted.Scan.TheVariants.{Moves, Gives, Ends, Fails}
-use Rattle.sal_literals.specs.code.Scanning.{Reading, ◌>>=◌, scan_step, after_text, scan_on, scan_at}
+use Rattle.sal_literals.specs.code.Scanning.{Reading, scan_step, after_text, scan_on, scan_at}
 
 pub nothing_read : (read : Reading (List ℕ)) → after_text [] read ≡ read
 nothing_read (Some x) = refl

@@ -1,5 +1,5 @@
 -- Universal names and their texts.
-use Rattle.std.proofs.Common.{◌≡◌, ℕ, Bool, Option, Some, None, List, Ok, Err, refl, sym, ap, ◌∙◌}
+use Rattle.std.proofs.Common.{◌≡◌, ℕ, Bool, Some, None, List, Ok, Err, sym, ap}
 use Rattle.std.specs.Prelude.{IsTrue, ◌↔◌}
 use Rattle.std.specs.Option.{option_map}
 use Rattle.std.specs.Str.{bytes_eq}
@@ -7,7 +7,7 @@ use Rattle.sal_value.specs.declared.name.Uan.{Uan}
 use Rattle.sal_value.specs.declared.name.Name.TheVariants as name
 use Rattle.sal_value.specs.declared.name.NameFault.{NameFault}
 use Rattle.sal_value.specs.declared.name.NameFault.TheVariants as fault
-use Rattle.sal_value.specs.Names.{uan_text, ReadsUan, uan_of}
+use Rattle.sal_value.specs.Names.{uan_text, ReadsUan}
 use Rattle.sal_value.specs.Decoding.{canonical_uan}
 use Rattle.sal_value.proofs.Canonical as canonical
 use Rattle.sal_value.proofs.Given.{names_are_given}
