@@ -1,0 +1,4 @@
+pub mod Services
+pub mod Rules
+pub mod Plans
+pub mod code
