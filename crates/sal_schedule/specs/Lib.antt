@@ -1,0 +1,5 @@
+pub mod Lines
+pub mod Events
+pub mod Rules
+pub mod Schedules
+pub mod code
