@@ -7,14 +7,18 @@ use Rattle.sal_ast.specs.Members.{Handler, fields_of, handlers_of}
 use Rattle.sal_ast.specs.Sorts.{result_sort}
 use Rattle.sal_types.specs.declared.signature.Signature.{Signature}
 use Rattle.sal_types.specs.Signatures.{all_some, signature_with}
+use Rattle.sal_mail.specs.declared.constants.TheConstants.{MIGRATE}
+use Rattle.sal_mail.specs.declared.effects.Effects.{Effects}
+use Rattle.sal_handler.specs.declared.turn.Outcome.TheVariants.{Done}
+use Rattle.sal_handler.specs.Calls.{Call}
 use Rattle.sal_handler.specs.Handler.{handle, begin}
 use Rattle.sal_handler.specs.Fits.{sorts_of, meaning_of}
 use Rattle.sal_source.specs.declared.state.Setup.{Setup}
 use Rattle.sal_source.specs.declared.state.Step.{Step}
 use Rattle.sal_source.specs.Configuration.{Configuration}
 use Rattle.sal_source.specs.Run.{play}
-use Rattle.sal_fitting.specs.Signatures.{Signatures, void_sort}
-use Rattle.sal_fitting.specs.Handlers.{HandlersKeepTypes}
+use Rattle.sal_fitting.specs.Signatures.{Signatures, void_sort, migrate_signature}
+use Rattle.sal_fitting.specs.Handlers.{IsTypedCall, AreTyped, HandlersKeepTypes}
 use Rattle.sal_fitting.specs.Runs.{BeginsTyped, AllFits}
 
 -- where a type's name means nothing, which no typed program has, void
@@ -53,3 +57,9 @@ ProgramsKeepTypes =
     → BeginsTyped (meaning_of p) setup.words (begin p)
     → (ss : List Step) (end : Configuration) → play p setup ss ≡ Some end
     → AllFits (meaning_of p) (signatures p) ss end
+
+-- Of every program: where a call of `migrate` fits, what it leaves is typed. (Of other handlers only typing gives this.)
+abbrev pub MigrateKeepsTypes : Type 0
+MigrateKeepsTypes =
+    (p : Program) (c : Call) (e : Effects) → IsTypedCall (signatures p) migrate_signature c → c.handler ≡ MIGRATE
+    → handle p c ≡ Done e → AreTyped (signatures p) migrate_signature c e
