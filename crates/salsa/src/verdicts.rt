@@ -97,7 +97,28 @@ refused Y30 at 65 | behavior A { int m() { return 1; } void act(String[] a) { jo
 refused Y30 at 97 | behavior A { int[][][][][][][][] f; int[][][][][][][][] m() { return f; } void act(String[] a) { join { m(); }; } }
 ok | behavior A { int m() { return 1; } void n(int[][] x) { } void act(String[] a) { join { join { m(); { m(); } }; } @ n(token); } }"#;
 
-const START: &str = "behavior A { void act(String[] a) { } ";
+const PARAMS: [&str; 4] = [
+    "behavior A { void act(String[] a) { } void m(int q",
+    ", int p",
+    "",
+    ") { } }",
+];
+
+const FIELDS: [&str; 4] = ["behavior A { void act(String[] a) { } ", "int f", "; ", "}"];
+
+const HANDLERS: [&str; 4] = [
+    "behavior A { void act(String[] a) { } ",
+    "void h",
+    "() { } ",
+    "}",
+];
+
+const BEHAVIORS: [&str; 4] = [
+    "behavior A { void act(String[] a) { } }",
+    " behavior B",
+    " { }",
+    "",
+];
 
 /// What is told of a program's types, without the end of its line.
 fn verdict(alloc: Global, text: &str) -> Result<Text, NoMemory> {
@@ -125,7 +146,9 @@ fn repeated(alloc: Global, piece: [&str; 4], count: u32) -> Result<Text, NoMemor
 fn each_rule_has_its_place(rt: HostRuntime) -> Result<(), Fail> {
     let alloc = rt.alloc();
     for line in VERDICTS.lines() {
-        let (told, text) = line.split_once(" | ").expect(&rt, "a verdict and a program");
+        let (told, text) = line
+            .split_once(" | ")
+            .expect(&rt, "a verdict and a program");
         let found = verdict(alloc, text)?;
         assert_eq!(rt; found.as_str().trim_end(), told, "{text}");
     }
@@ -135,17 +158,18 @@ fn each_rule_has_its_place(rt: HostRuntime) -> Result<(), Fail> {
 #[test]
 fn members_are_counted(rt: HostRuntime) -> Result<(), Fail> {
     let alloc = rt.alloc();
-    for (piece, most, told) in [
-        (["behavior A { void act(String[] a) { } void m(int q", ", int p", "", ") { } }"], 15, "refused Y2 at 181"),
-        ([START, "int f", "; ", "}"], 64, "refused Y2 at 608"),
-        ([START, "void h", "() { } ", "}"], 63, "refused Y2 at 978"),
-        (["behavior A { void act(String[] a) { } }", " behavior B", " { }", ""], 63, "refused Y2 at 1110"),
+    for (piece, count, told) in [
+        (PARAMS, 15, "ok"),
+        (PARAMS, 16, "refused Y2 at 181"),
+        (FIELDS, 64, "ok"),
+        (FIELDS, 65, "refused Y2 at 608"),
+        (HANDLERS, 63, "ok"),
+        (HANDLERS, 64, "refused Y2 at 978"),
+        (BEHAVIORS, 63, "ok"),
+        (BEHAVIORS, 64, "refused Y2 at 1110"),
     ] {
-        let within = repeated(alloc, piece, most)?;
-        let found = verdict(alloc, within.as_str())?;
-        assert_eq!(rt; found.as_str().trim_end(), "ok", "{told}");
-        let over = repeated(alloc, piece, most + 1)?;
-        let found = verdict(alloc, over.as_str())?;
+        let text = repeated(alloc, piece, count)?;
+        let found = verdict(alloc, text.as_str())?;
         assert_eq!(rt; found.as_str().trim_end(), told, "{told}");
     }
     Ok(())
