@@ -43,6 +43,8 @@ fn main(rt: HostRuntime) -> ExitCode {
 }
 
 #[cfg(test)]
+mod handlers;
+#[cfg(test)]
 mod tests;
 #[cfg(test)]
 mod verdicts;
