@@ -1,2 +1,4 @@
 pub mod Sending
 pub mod Joining
+pub mod Executing
+pub mod Signing
