@@ -151,6 +151,19 @@ append_one : {A : Type 0} (xs : List A) (t : A) (ts : List A) → (xs ++ t ∷ [
 append_one [] t ts = refl
 append_one (a ∷ xs) t ts = ap (λ z. a ∷ z) (append_one xs t ts)
 
+-- the token of a local, if it is one
+abbrev pub tok_in : Option (Option Sort) → Option Sort
+tok_in None = None
+tok_in (Some k) = k
+
+abbrev pub tok_at : Option ℕ → List (Option Sort) → Option Sort
+tok_at None ks = None
+tok_at (Some i) ks = tok_in (slice_get ks i)
+
+-- the type of the token of this name, if the name is a token's
+abbrev pub tokens_of : Scope → List (Option Sort) → List ℕ → Option Sort
+tokens_of env ks n = tok_at (position (λ (v : Variable). bytes_eq v.name n) env.locals) ks
+
 module _ (bs : List Behavior) (sigs : Signatures) (g : Signature) (from : ℕ) (J : Expr → Scope → Kind → Type 0) (JS : Suffix → Scope → Kind → Kind → Type 0) (makes : ℕ → List Sort) (judges : Judges J JS makes) where
   abbrev pub Can : Context → Type 0
   Can = x.Able (StateOf bs) J JS makes judges (IsOf bs) (name_is bs) (own_is bs)
@@ -198,19 +211,6 @@ module _ (bs : List Behavior) (sigs : Signatures) (g : Signature) (from : ℕ) (
   locals_more sorts later f r (Some t ∷ ks) [] h = absurd h
   locals_more sorts later f r (None ∷ ks) (l ∷ ls) h = (h.0, locals_more sorts later f r ks ls h.1)
   locals_more sorts later f r (Some t ∷ ks) (l ∷ ls) h = ((h.0.0, (h.0.1.0, f (Tok r.me h.0.0) t h.0.1.1)), locals_more sorts later f r ks ls h.1)
-
-  -- the token of a local, if it is one
-  abbrev tok_in : Option (Option Sort) → Option Sort
-  tok_in None = None
-  tok_in (Some k) = k
-
-  abbrev tok_at : Option ℕ → List (Option Sort) → Option Sort
-  tok_at None ks = None
-  tok_at (Some i) ks = tok_in (slice_get ks i)
-
-  -- the type of the token of this name, if the name is a token's
-  abbrev pub tokens_of : Scope → List (Option Sort) → List ℕ → Option Sort
-  tokens_of env ks n = tok_at (position (λ (v : Variable). bytes_eq v.name n) env.locals) ks
 
   local_has : (sorts : Sorts) (r : Context) (ks : List (Option Sort)) (ls : List Local) → AreLocals sorts r ks ls → (i : ℕ) (t : Sort) → tok_in (slice_get ks i) ≡ Some t → (k : ℕ) × ((c.token_of_local (slice_get ls i) ≡ Some k) × (sorts (Tok r.me k) ≡ Some t))
   local_has sorts r [] ls h i t e = absurd cc
@@ -331,13 +331,13 @@ module _ (bs : List Behavior) (sigs : Signatures) (g : Signature) (from : ℕ) (
     BeforeIs sorts number t = (u : Sort) → t ≡ Some u → (n : ℕ) × ((number ≡ Some n) × (sorts (Tok r.me n) ≡ Some u))
 
     -- what typing gives of an argument: a token of the type, or an expression that is no token
-    abbrev ArgOf : Arg → Option Sort → Sort → Type 0
+    abbrev pub ArgOf : Arg → Option Sort → Sort → Type 0
     ArgOf (arg.Token at) before t = before ≡ Some t
     ArgOf (arg.Expr e) before t =
         ((id : Ident) × ((m.name_alone (out-Expr e) ≡ Some id) × (tokens_of env tokens id.text ≡ Some t)))
         ⊎ (((id : Ident) → m.name_alone (out-Expr e) ≡ Some id → tokens_of env tokens id.text ≡ None) × ((k : Kind) × (J e env k × Assignable k t)))
 
-    abbrev ArgsOf : List Arg → Option Sort → List Sort → Type 0
+    abbrev pub ArgsOf : List Arg → Option Sort → List Sort → Type 0
     ArgsOf [] before [] = Unit {0}
     ArgsOf [] before (t ∷ ts) = ⊥
     ArgsOf (a ∷ more) before [] = ⊥
@@ -376,7 +376,7 @@ module _ (bs : List Behavior) (sigs : Signatures) (g : Signature) (from : ℕ) (
 
     -- ---- delays and targets
 
-    abbrev DelaysOf : List Property → Type 0
+    abbrev pub DelaysOf : List Property → Type 0
     DelaysOf [] = Unit {0}
     DelaysOf (property.Delay at time ∷ more) = ((k : Kind) × J time env k) × DelaysOf more
     DelaysOf (property.WaitFor at names ∷ more) = DelaysOf more
@@ -386,7 +386,7 @@ module _ (bs : List Behavior) (sigs : Signatures) (g : Signature) (from : ℕ) (
     delays_held sorts (property.Delay at time ∷ more) f last s h = then_after (λ y u. Held sorts u × Has f.0.0 y) (λ y u. Held sorts u) (eval time r s) (λ y. m.eval_delay more (Some y) r) (eval_held sorts time f.0.0 f.0.1 s h) (λ y u q. delays_held sorts more f.1 (Some y) u q.0)
     delays_held sorts (property.WaitFor at names ∷ more) f last s h = delays_held sorts more f last s h
 
-    abbrev AimOf : Aim → Type 0
+    abbrev pub AimOf : Aim → Type 0
     AimOf aim.Own = Unit {0}
     AimOf (aim.Output at) = Unit {0}
     AimOf (aim.Actor e) = (k : Kind) × J e env k

@@ -81,7 +81,7 @@ same_signature p n k g e = of_behavior p.behaviors g k (slice_get p.behaviors n)
 
 -- ---- typed calls
 
-abbrev Numbers : List Behavior → List Sort → List MeantSort → Type 0
+abbrev pub Numbers : List Behavior → List Sort → List MeantSort → Type 0
 Numbers bs ss ts = Pairwise (λ s t. number_sort s bs ≡ Some t) ss ts
 
 pub record IsAddressed (p : Program) (r : Context) (handler : List ℕ) (number : ℕ) (callee : HandlerType) : Type 0 where
