@@ -1,11 +1,11 @@
 -- What is due.
-use Rattle.std.proofs.Common.{◌≡◌, ℕ, zero, suc, ◌+◌, ◌<◌, ◌≤◌, Bool, List, [], ◌∷◌, ◌++◌, map, length, take, drop, Option, Some, None, refl, sym, ap, subst, ◌∙◌, arith, append_assoc, append-nil}
-use Rattle.std.specs.Prelude.{slice_get}
+use Rattle.std.proofs.Common.{◌≡◌, ℕ, zero, suc, ◌+◌, ◌<◌, ◌≤◌, Bool, true, false, List, [], ◌∷◌, ◌++◌, map, length, take, drop, Option, Some, None, refl, sym, ap, subst, ◌∙◌, arith, append_assoc, append-nil}
+use Rattle.std.specs.Prelude.{slice_get, if◌then◌else◌}
 use Rattle.std.proofs.lemmas.List.{map-append, drop_all, length-map, length-append, length-take, length-drop}
 use Rattle.sal_carriage.specs.declared.fragment.Fragment.{Fragment}
 use Rattle.sal_carriage.specs.declared.datagram.Datagram.{Datagram}
 use Rattle.sal_carriage.specs.Frames.{Frame}
-use Rattle.sal_carriage.specs.Link.{Link, window, if_due, due_data, or_acknowledgement, due, datagram_of, mark, mark_first, owes_after, push}
+use Rattle.sal_carriage.specs.Link.{Link, window, if_due, due_data, acknowledgement, or_acknowledgement, due, datagram_of, mark, mark_first, owes_after, push}
 
 -- ---- lists
 
@@ -89,16 +89,17 @@ none_due now l ds new e none n = at (fragments_due now l) e
 
 -- ---- once it is sent
 
-owes_same : (fs : List Frame) (owes : Bool) → owes_after (map datagram_of fs) owes ≡ owes_after fs owes
-owes_same [] owes = refl
-owes_same (f ∷ fs) owes = refl
+-- Every frame tells the wanted number, and where none is due no acknowledgement was due.
+none_owed : (owes : Bool) (l : Link) (fs : List Frame) → owes ≡ l.owes → owes_after (or_acknowledgement l fs) l.owes ≡ false
+none_owed owes l (f ∷ fs) e = refl
+none_owed true l [] e =
+    ap (λ b. owes_after (if b then acknowledgement l ∷ [] else []) l.owes) (sym e)
+none_owed false l [] e =
+    ap (λ b. owes_after (if b then acknowledgement l ∷ [] else []) b) (sym e)
 
-pub link_sends : (now : ℕ) (l : Link) (ds : List Datagram) (us : List Fragment) (owes : Bool) → ds ≡ map datagram_of (due now l) → us ≡ mark_first 32 now l.unacknowledged
-    → owes ≡ owes_after ds l.owes → record l { unacknowledged = us; owes = owes } ≡ push now l
-unfolding push
-link_sends now l ds us owes e u o =
-    let after : owes ≡ owes_after (due now l) l.owes = o ∙ ap (λ (xs : List Datagram). owes_after xs l.owes) e ∙ owes_same (due now l) l.owes in
-    λ i. record l { unacknowledged = u i; owes = after i }
+pub link_pushes : (now : ℕ) (l : Link) (us : List Fragment) → us ≡ mark_first 32 now l.unacknowledged → record l { unacknowledged = us; owes = false } ≡ push now l
+unfolding push due
+link_pushes now l us u = λ i. record l { unacknowledged = u i; owes = sym (none_owed l.owes l (fragments_due now l) refl) i }
 
 pub mark_length : (count now : ℕ) (fs : List Fragment) → length (mark_first count now fs) ≡ length fs
 mark_length count now fs =

@@ -3,6 +3,7 @@ pub mod Cells
 pub mod Crossing
 pub mod Cutting
 pub mod Due
+pub mod Halves
 pub mod Honesty
 pub mod Marking
 pub mod Offering

@@ -33,7 +33,7 @@ same_wanted w l = at (tells_more w l)
     at true = refl
     at false = refl
 
-same_part : (w : ℕ) (l : Link) → (acknowledge w l).part ≡ l.part
+pub same_part : (w : ℕ) (l : Link) → (acknowledge w l).part ≡ l.part
 unfolding acknowledge
 same_part w l = at (tells_more w l)
   where

@@ -100,6 +100,16 @@ impl Fragments {
         }
     }
 
+    /// Only the first so many stay.
+    pub fn keep_first(&mut self, count: usize)
+        ensures { self.new ≡ take count self.old }
+    {
+        let surplus = self.items.len().saturating_sub(count);
+        for _ in 0..surplus {
+            self.items.pop_back();
+        }
+    }
+
     /// Those that are due of the first so many are sent.
     pub fn mark_first(&mut self, count: usize, now: u64)
         ensures { self.new ≡ mark_first count now self.old }

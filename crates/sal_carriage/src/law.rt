@@ -1,6 +1,7 @@
 //! Laws of the definitions: functions without work, whose contracts are the laws.
 
 ghost use Rattle.sal_carriage.specs.Exchange.{LinksKeepOrder};
+ghost use Rattle.sal_carriage.specs.Halves.{HalvesCommute};
 ghost use Rattle.sal_carriage.specs.Laws.{HonestFramesCross, NetworksStayHonest, OffersAreLast, PushesChangeNothing, UnwantedFramesChangeLittle};
 
 /// Bytes that carry no wanted fragment change a link only in what it knows to be acknowledged, and in whether it
@@ -35,4 +36,10 @@ pub fn pushes_change_nothing()
 /// ever sent carries what was offered under its number, and acknowledges no more than its sender took.
 pub fn links_keep_order()
     ensures { LinksKeepOrder }
+{}
+
+/// An envelope may be offered between the two halves of taking another one, and an offer that is withdrawn changes
+/// nothing.
+pub fn halves_commute()
+    ensures { HalvesCommute }
 {}

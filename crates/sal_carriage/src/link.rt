@@ -2,9 +2,11 @@
 
 ghost use Rattle.std.specs.Prelude.{◌≡◌, ◌<◌, ◌≤◌, ◌++◌, [], true, false, length, map, take, IfOk, OnOk, OnErr};
 ghost use Rattle.sal_carriage.specs.Fragments.{Fits, AllFit};
+ghost use Rattle.sal_carriage.specs.Halves.{CanComplete, IsArrival, complete, completes, newly_acknowledged, withdraw};
 ghost use Rattle.sal_carriage.specs.Link as spec;
 ghost use Rattle.sal_carriage.specs.Offers.{Offers};
 
+use crate::arrival::Arrival;
 use crate::datagram::{Datagram, OfferFault, Taken};
 use crate::fragment::{Fragment, Fragments, is_old};
 use crate::frame::Frame;
@@ -189,8 +191,9 @@ impl Link {
         Ok(datagrams)
     }
 
+    /// The datagrams that are due at this moment. None counts as sent yet.
     #[tactic(auto, using(crate::proofs::Due::some_due, crate::proofs::Due::none_due))]
-    fn due_datagrams(&self, alloc: Global, now: u64) -> Result<List<Datagram>, NoMemory>
+    pub fn due_datagrams(&self, alloc: Global, now: u64) -> Result<List<Datagram>, NoMemory>
         ensures { IfOk result (λ ds. ds ≡ map spec.datagram_of (spec.due now self.now)) }
     {
         let datagrams = self.due_data(alloc, now)?;
@@ -200,10 +203,12 @@ impl Link {
         self.due_acknowledgement(alloc)
     }
 
-    fn owes_after(&self, datagrams: &List<Datagram>) -> bool
-        ensures { result ≡ spec.owes_after datagrams.now self.now.owes }
+    /// What is due at this moment counts as sent. Takes no memory.
+    pub fn push(&mut self, now: u64)
+        ensures { self.new ≡ spec.push now self.old }
     {
-        self.owes && datagrams.is_empty()
+        self.unacknowledged.mark_first(32, now);
+        self.owes = false;
     }
 
     /// What is to be sent at this moment. It counts as sent.
@@ -213,8 +218,7 @@ impl Link {
         ensures err { OnErr result (self.new ≡ self.old) }
     {
         let datagrams = self.due_datagrams(alloc, now)?;
-        self.owes = self.owes_after(&datagrams);
-        self.unacknowledged.mark_first(32, now);
+        self.push(now);
         Ok(datagrams)
     }
 
@@ -311,6 +315,66 @@ impl Link {
             return Ok(Taken::Noise);
         }
         self.take_accepted(alloc, &frame)
+    }
+
+    fn completes(&self, frame: &Frame<'_>) -> bool
+        ensures { result ≡ completes frame.now self.now }
+    {
+        self.accepts(frame) && frame.is_data && frame.number == self.wanted && frame.last
+    }
+
+    fn newly_acknowledged(&self, wanted: u64) -> usize
+        ensures { result ≡ newly_acknowledged wanted self.now }
+    {
+        if !self.tells_more(wanted) {
+            return 0;
+        }
+        (wanted - self.acknowledged) as usize
+    }
+
+    /// The bytes taken so far, and these.
+    fn joined_with(&self, alloc: Global, payload: &[u8]) -> Result<List<u8>, NoMemory>
+        ensures { IfOk result (λ bytes. bytes ≡ self.now.part ++ payload.now) }
+    {
+        let mut bytes = List::new(alloc);
+        bytes.push_slice(self.part.as_slice())?;
+        bytes.push_slice(payload)?;
+        Ok(bytes)
+    }
+
+    /// The envelope that the bytes complete, if they do. Nothing is taken yet.
+    pub fn arrival(&self, alloc: Global, bytes: &[u8]) -> Result<Option<Arrival>, NoMemory>
+        ensures { IfOk result (IsArrival bytes.now self.now) }
+    {
+        let Some(frame) = Frame::read(bytes) else {
+            return Ok(None);
+        };
+        if !self.completes(&frame) {
+            return Ok(None);
+        }
+        Ok(Some(Arrival {
+            envelope: self.joined_with(alloc, frame.payload)?,
+            acknowledges: self.newly_acknowledged(frame.wanted),
+        }))
+    }
+
+    /// Takes the fragment that completes an envelope, once `arrival` told of it. Takes no memory.
+    pub fn complete(&mut self, alloc: Global, acknowledges: usize)
+        requires { CanComplete acknowledges self.old }
+        ensures { self.new ≡ complete acknowledges self.old }
+    {
+        self.unacknowledged.drop_first(acknowledges);
+        self.acknowledged += acknowledges as u64;
+        self.wanted += 1;
+        self.part = List::new(alloc);
+        self.owes = true;
+    }
+
+    /// Withdraws what was offered after so many fragments that aren't known to be acknowledged. Takes no memory.
+    pub fn withdraw(&mut self, count: usize)
+        ensures { self.new ≡ withdraw count self.old }
+    {
+        self.unacknowledged.keep_first(count);
     }
 
     /// Whether all that was offered is acknowledged, and no acknowledgement is due.

@@ -1,0 +1,2 @@
+pub mod Withdrawing
+pub mod Takes
