@@ -12,10 +12,10 @@ use Rattle.sal_value.proofs.Tables.{same_words, words_refl, same_table, get-writ
 use Rattle.sal_naming.specs.declared.entry.Entry.{Entry}
 use Rattle.sal_naming.specs.Table.{Names, entry_of, keep}
 
-module _ {K V : Type 0} (words : K → TableKey) where
-  abbrev order : K → K → Ordering
-  order a b = key_cmp (words a) (words b)
+abbrev order : {K : Type 0} → (K → TableKey) → K → K → Ordering
+order words a b = key_cmp (words a) (words b)
 
+module _ {K V : Type 0} (words : K → TableKey) where
   abbrev at_key : TableKey → List (K × V) → Option V
   at_key q more = es.find key_cmp q (map (λ e. (words e.0, e.1)) more)
 
@@ -23,25 +23,25 @@ module _ {K V : Type 0} (words : K → TableKey) where
   get_by more q = fm.get-from_entries nat_list_cmp_total (map (λ (e : K × V). (words e.0, e.1)) more) q
 
   remove_at : (q : TableKey) (n : K) (e : K × V) (more : List (K × V)) (b : Bool) → key_eq (words n) (words e.0) ≡ b → key_eq q (words n) ≡ false →
-      at_key q (remove_entry (is_at (order n)) more) ≡ at_key q more →
-      at_key q (cond b more (e ∷ remove_entry (is_at (order n)) more)) ≡ at_key q (e ∷ more)
+      at_key q (remove_entry (is_at (order words n)) more) ≡ at_key q more →
+      at_key q (cond b more (e ∷ remove_entry (is_at (order words n)) more)) ≡ at_key q (e ∷ more)
   remove_at q n e more true is differ rest =
       sym (ap (λ c. cond c (Some e.1) (at_key q more)) (ap (key_eq q) (sym (same_words (words n) (words e.0) is)) ∙ differ))
   remove_at q n e more false is differ rest = ap (cond (key_eq q (words e.0)) (Some e.1)) rest
 
-  found_remove : (q : TableKey) (n : K) (more : List (K × V)) → key_eq q (words n) ≡ false → at_key q (remove_entry (is_at (order n)) more) ≡ at_key q more
+  found_remove : (q : TableKey) (n : K) (more : List (K × V)) → key_eq q (words n) ≡ false → at_key q (remove_entry (is_at (order words n)) more) ≡ at_key q more
   found_remove q n [] differ = refl
   found_remove q n (e ∷ more) differ = remove_at q n e more (key_eq (words n) (words e.0)) refl differ (found_remove q n more differ)
 
-  none_at_key : (n : K) (more : List (K × V)) → lookup (is_at (order n)) more ≡ None → at_key (words n) more ≡ None
+  none_at_key : (n : K) (more : List (K × V)) → lookup (is_at (order words n)) more ≡ None → at_key (words n) more ≡ None
   none_at_key n [] e = refl
   none_at_key n (x ∷ more) e = at (key_eq (words n) (words x.0)) (none_at_key n more) e
     where
-      at : (b : Bool) → (lookup (is_at (order n)) more ≡ None → at_key (words n) more ≡ None) → cond b (Some x.1) (lookup (is_at (order n)) more) ≡ None → cond b (Some x.1) (at_key (words n) more) ≡ None
+      at : (b : Bool) → (lookup (is_at (order words n)) more ≡ None → at_key (words n) more ≡ None) → cond b (Some x.1) (lookup (is_at (order words n)) more) ≡ None → cond b (Some x.1) (at_key (words n) more) ≡ None
       at true rest f = f
       at false rest f = rest f
 
-  pub removed : (n : K) (old new : List (K × V)) → new ≡ remove_entry (is_at (order n)) old → lookup (is_at (order n)) new ≡ None → table_by words new ≡ write (table_by words old) (words n) None
+  pub removed : (n : K) (old new : List (K × V)) → new ≡ remove_entry (is_at (order words n)) old → lookup (is_at (order words n)) new ≡ None → table_by words new ≡ write (table_by words old) (words n) None
   removed n old new is gone = same_table _ _ (λ q. get_by new q ∙ at q (key_eq q (words n)) refl ∙ sym (get-write (table_by words old) (words n) None q))
     where
       at : (q : TableKey) (b : Bool) → key_eq q (words n) ≡ b → at_key q new ≡ cond b None (fm.get (table_by words old) q)
