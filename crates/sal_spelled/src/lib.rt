@@ -12,3 +12,6 @@ pub use actors::is_packable;
 pub use envelopes::envelope_is_spelled;
 pub use law::{light_actors_may_be_sent, sent_envelopes_are_parcels};
 pub use sending::{pack_if_light, spell};
+
+#[cfg(test)]
+mod tests;
