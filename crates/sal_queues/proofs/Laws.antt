@@ -186,6 +186,41 @@ module _ {X : Type 0} where
       find-joined (fm.entries more) (fm.entries_sorted more) t q
       ∙ ap (λ o. queue_of q t ++ unwrap_or o []) (sym (fm.get-entries more q))
 
+  -- no empty list is there
+  abbrev IsFilled : Queues X → Type 0
+  IsFilled t = (q : TableKey) → fm.get t q ≡ if_filled (queue_of q t)
+
+  filled-with_more : (k : TableKey) (xs : List X) (t : Queues X) → IsFilled t → IsFilled (with_more k xs t)
+  filled-with_more k xs t h q =
+      get-write t k (if_filled (queue_of k t ++ xs)) q
+      ∙ at (key_eq q k)
+      ∙ ap if_filled (sym (queue_of-with_more k xs t q))
+    where
+      at : (b : Bool) → cond b (if_filled (queue_of k t ++ xs)) (fm.get t q) ≡ if_filled (cond b (queue_of k t ++ xs) (queue_of q t))
+      at true = refl
+      at false = h q
+
+  filled-joined_entries : (es : List (TableKey × List X)) (t : Queues X) → IsFilled t → IsFilled (joined_entries es t)
+  filled-joined_entries [] t h = h
+  filled-joined_entries (e ∷ es) t h = filled-joined_entries es (with_more e.0 e.1 t) (filled-with_more e.0 e.1 t h)
+
+  filled-joined : (more t : Queues X) → IsFilled t → IsFilled (joined more t)
+  unfolding joined
+  filled-joined more t h = filled-joined_entries (fm.entries more) t h
+
+  -- what is seen at a key once `more` is joined
+  pub get-joined : (more t : Queues X) (q : TableKey) → fm.get (joined more (filled t)) q ≡ if_filled (queue_of q t ++ queue_of q more)
+  get-joined more t q =
+      filled-joined more (filled t) (λ k. filled_is t k ∙ ap if_filled (sym (queue_of-filled t k))) q
+      ∙ ap if_filled (queue_of-joined more (filled t) q ∙ ap (λ xs. xs ++ queue_of q more) (queue_of-filled t q))
+
+  -- empty lists of `more` mean nothing either
+  pub joined-filled : (more t : Queues X) → joined (filled more) (filled t) ≡ joined more (filled t)
+  joined-filled more t = same_table _ _ (λ q.
+      get-joined (filled more) t q
+      ∙ ap (λ xs. if_filled (queue_of q t ++ xs)) (queue_of-filled more q)
+      ∙ sym (get-joined more t q))
+
 -- whether a list of entries has a queue, against the table
 module _ {K X : Type 0} (words : K → TableKey) where
   any-map : (es : List (K × List X)) → list_any (λ (e : K × List X). is_filled e.1) es ≡ list_any (λ (e : TableKey × List X). is_filled e.1) (map (λ e. (words e.0, e.1)) es)

@@ -84,7 +84,7 @@ module _ {X : Type 0} where
   room_first t more rest k xs had is =
       subst (λ o. HasRoomAt o (fm.get t k)) (get_after more rest k k xs is ∙ ap (λ b. cond b (Some xs) (fm.get rest k)) (words_refl k)) (had k)
 
-  pub room_rest : (t more rest : Queues X) (k : TableKey) (xs ys : List X) → HasRoomFor t more → fm.entries more ≡ (k, xs) ∷ fm.entries rest → HasRoomFor (write t k (Some ys)) rest
+  room_rest : (t more rest : Queues X) (k : TableKey) (xs ys : List X) → HasRoomFor t more → fm.entries more ≡ (k, xs) ∷ fm.entries rest → HasRoomFor (write t k (Some ys)) rest
   unfolding HasRoomFor
   room_rest t more rest k xs ys had is q = subst (HasRoomAt (fm.get rest q)) (sym (get-write t k (Some ys) q)) (at (key_eq q k) refl)
     where
@@ -92,9 +92,16 @@ module _ {X : Type 0} where
       at true same = subst (λ o. HasRoomAt o (Some ys)) (sym (none_after more rest k q xs is same)) tt
       at false other = subst (λ o. HasRoomAt o (fm.get t q)) (get_after more rest k q xs is ∙ ap (λ b. cond b (Some xs) (fm.get rest q)) other) (had q)
 
-  pub joined_first : (t more rest : Queues X) (k : TableKey) (xs : List X) → fm.entries more ≡ (k, xs) ∷ fm.entries rest → joined rest (filled (write t k (Some (queue_of k t ++ xs)))) ≡ joined more (filled t)
+  joined_first : (t more rest : Queues X) (k : TableKey) (xs : List X) → fm.entries more ≡ (k, xs) ∷ fm.entries rest → joined rest (filled (write t k (Some (queue_of k t ++ xs)))) ≡ joined more (filled t)
   unfolding joined
   joined_first t more rest k xs is = ap (joined_entries (fm.entries rest)) (extended t k xs) ∙ sym (ap (λ es. joined_entries es (filled t)) is)
+
+  -- the first queue is joined, and the rest is left
+  pub append_step : (t u more rest s : Queues X) (k : TableKey) (xs : List X) → HasRoomFor t more → joined more (filled t) ≡ s → fm.entries more ≡ (k, xs) ∷ fm.entries rest → u ≡ write t k (Some (queue_of k t ++ xs)) → HasRoomFor u rest × (joined rest (filled u) ≡ s)
+  append_step t u more rest s k xs had same is new = (
+    subst (λ v. HasRoomFor v rest) (sym new) (room_rest t more rest k xs (queue_of k t ++ xs) had is),
+    ap (λ v. joined rest (filled v)) new ∙ joined_first t more rest k xs is ∙ same,
+  )
 
   pub joined_none : (more t : Queues X) → more ≡ fm.empty → t ≡ joined more t
   unfolding joined

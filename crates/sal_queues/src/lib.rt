@@ -4,3 +4,6 @@
 mod queues;
 
 pub use queues::Queues;
+
+#[cfg(test)]
+mod tests;
