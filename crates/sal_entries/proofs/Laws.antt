@@ -1,15 +1,15 @@
 -- The laws of tables whose entries may be empty: what values they have after a change, and what they do to another
 -- table as a list of changes.
-use Rattle.std.proofs.Common.{◌≡◌, Bool, true, false, cond, ◌&&◌, ◌||◌, T, List, [], ◌∷◌, Option, Some, None, is_some, not, IsTrue, refl, sym, ap, ◌∙◌, true≢false, Ordering, Less, Equal, Greater}
+use Rattle.std.proofs.Common.{◌≡◌, ◌<◌, Bool, true, false, cond, ◌&&◌, ◌||◌, T, List, [], ◌∷◌, length, Option, Some, None, is_some, not, IsTrue, refl, sym, ap, subst, ◌∙◌, arith, true≢false, Ordering, Less, Equal, Greater}
 use Rattle.std.specs.Ordering.{is_lt, is_eq}
 use Rattle.std.specs.List.{fold, list_any}
-use Rattle.std.specs.Option.{option_flatten, unwrap_or}
+use Rattle.std.specs.Option.{option_flatten, option_map, unwrap_or}
 use Rattle.std.proofs.lemmas.Cmp.{nat_list_cmp_total}
 use Rattle.std.specs.FinMap as fm
 use Rattle.std.specs.FinMap.Entries as ordered
 use Rattle.sal_value.specs.Table.{TableKey, Table, key_cmp, key_eq, write}
 use Rattle.sal_value.proofs.Tables.{same_words, words_refl, same_table, get-write}
-use Rattle.sal_entries.specs.Entries.{Entries, value_at, with_room, with_room_by, before_values, value_entries, values, after_changes, overlaid, word_entries}
+use Rattle.sal_entries.specs.Entries.{Entries, value_at, with_room, with_room_by, before_values, value_entries, values, after_changes, overlaid, HasRoomFor, word_entries}
 
 left : (a b : Bool) → T (a && b) → T a
 left true b h = tt
@@ -210,8 +210,11 @@ module _ {V : Type 0} where
   pub overlaid-none : (c : Entries V) (b : Table V) → c ≡ fm.empty → overlaid c b ≡ b
   overlaid-none c b is = ap (λ d. overlaid d b) is ∙ overlaid-empty b
 
+-- ---- the first entry leaves
+
+module _ {X : Type 0} where
   -- the keys of the changes that are left are among those of all
-  pub has-popped : (c more : Entries V) (k : TableKey) (o : Option V) → fm.entries c ≡ (k, o) ∷ fm.entries more → (q : TableKey) → fm.contains_key more q ≡ true → fm.contains_key c q ≡ true
+  pub has-popped : (c more : Table X) (k : TableKey) (o : X) → fm.entries c ≡ (k, o) ∷ fm.entries more → (q : TableKey) → fm.contains_key more q ≡ true → fm.contains_key c q ≡ true
   has-popped c more k o is q had =
       ap is_some (fm.get-entries c q ∙ ap (ordered.find key_cmp q) is) ∙ at (key_eq q k)
     where
@@ -219,8 +222,88 @@ module _ {V : Type 0} where
       at true = refl
       at false = ap is_some (sym (fm.get-entries more q)) ∙ had
 
-  pub has-first : (c : Entries V) (k : TableKey) (o : Option V) (more : List (TableKey × Option V)) → fm.entries c ≡ (k, o) ∷ more → fm.get c k ≡ Some o
+  pub has-first : (c : Table X) (k : TableKey) (o : X) (more : List (TableKey × X)) → fm.entries c ≡ (k, o) ∷ more → fm.get c k ≡ Some o
   has-first c k o more is = fm.get-entries c k ∙ ap (ordered.find key_cmp k) is ∙ ap (λ b. cond b (Some o) (ordered.find key_cmp k more)) (words_refl k)
+
+-- ---- room for each key of another table
+
+or_right : (a b : Bool) → b ≡ true → (a || b) ≡ true
+or_right true b h = refl
+or_right false b h = h
+
+or_keeps : (a b c : Bool) → (b ≡ true → c ≡ true) → (a || b) ≡ true → (a || c) ≡ true
+or_keeps true b c f h = refl
+or_keeps false b c f h = f h
+
+module _ {X Y : Type 0} where
+  -- the room of a key
+  pub room-at : (more : Table X) (t : Table Y) → HasRoomFor more t → (k : TableKey) → fm.contains_key more k ≡ true → fm.contains_key t k ≡ true
+  unfolding HasRoomFor
+  room-at more t h = h
+
+  pub room-through : {Z : Type 0} (a : Table X) (b : Table Y) (c : Table Z) → HasRoomFor a b → HasRoomFor b c → HasRoomFor a c
+  unfolding HasRoomFor
+  room-through a b c f g k h = g k (f k h)
+
+  -- room for each key of `more` but those of the list
+  abbrev pub HasRoomBut : List (TableKey × X) → Table X → Table Y → Type 0
+  HasRoomBut es more t = (q : TableKey) → fm.contains_key more q ≡ true → (is_some (ordered.find key_cmp q es) || fm.contains_key t q) ≡ true
+
+  pub room-start : (more : Table X) (t : Table Y) → HasRoomBut (fm.entries more) more t
+  room-start more t q h = ap (λ b. b || fm.contains_key t q) (ap is_some (sym (fm.get-entries more q)) ∙ h)
+
+  pub room-end : (more : Table X) (t : Table Y) → HasRoomBut [] more t → HasRoomFor more t
+  unfolding HasRoomFor
+  room-end more t h = h
+
+pub room-empty : (X : Type 0) {Y : Type 0} (t : Table Y) → HasRoomFor (fm.empty {X = X} {R = key_cmp}) t
+unfolding HasRoomFor
+room-empty X t k h = absurd (true≢false (sym h ∙ ap is_some (fm.get-empty {X = X} key_cmp k)))
+
+pub room-itself : {X : Type 0} (t : Table X) → HasRoomFor t t
+unfolding HasRoomFor
+room-itself t k h = h
+
+module _ {V : Type 0} where
+  -- room that is taken keeps all room
+  pub room-more : (t : Entries V) (k : TableKey) → HasRoomFor t (with_room k t)
+  unfolding HasRoomFor
+  room-more t k q h = keeps-room t k q h
+
+  pub room-step : {X : Type 0} (e : TableKey × X) (es : List (TableKey × X)) (more : Table X) (t : Entries V) → HasRoomBut (e ∷ es) more t → HasRoomBut es more (with_room e.0 t)
+  room-step e es more t f q h = at (key_eq q e.0) refl (f q h)
+    where
+      at : (b : Bool) → key_eq q e.0 ≡ b → (is_some (cond b (Some e.1) (ordered.find key_cmp q es)) || fm.contains_key t q) ≡ true → (is_some (ordered.find key_cmp q es) || fm.contains_key (with_room e.0 t) q) ≡ true
+      at true is g = or_right (is_some (ordered.find key_cmp q es)) _ (ap (fm.contains_key (with_room e.0 t)) (same_words q e.0 is) ∙ has-room t e.0)
+      at false is g = or_keeps (is_some (ordered.find key_cmp q es)) _ _ (keeps-room t e.0 q) g
+
+  -- the first change is made, and its entry may leave: the others have room still
+  pub room-popped : {X : Type 0} (c more : Table X) (t : Entries V) (k : TableKey) (x : X) (entry : Option (Option V)) → fm.entries c ≡ (k, x) ∷ fm.entries more → HasRoomFor c t → HasRoomFor more (write t k entry)
+  unfolding HasRoomFor
+  room-popped c more t k x entry is f q h = ap is_some (get-write t k entry q) ∙ at (key_eq q k) refl
+    where
+      below : T (ordered.below_all key_cmp k (fm.entries more))
+      below = left _ (ordered.is_sorted key_cmp (fm.entries more)) (subst (λ l. T (ordered.is_sorted key_cmp l)) is (fm.entries_sorted c))
+
+      at : (b : Bool) → key_eq q k ≡ b → is_some (cond b entry (fm.get t q)) ≡ true
+      at true same = absurd (true≢false (sym h ∙ ap is_some (fm.get-entries more q ∙ none_below k q (fm.entries more) below same)))
+      at false same = f q (has-popped c more k x is q h)
+
+  -- what becomes of an entry by a change: it has the value, or leaves
+  pub says-value : (o : Option V) → option_flatten (option_map Some o) ≡ o
+  says-value None = refl
+  says-value (Some v) = refl
+
+  pub changed-value : (b : Bool) (o : Option V) (t : Entries V) (k : TableKey) → b ≡ is_some o → b ≡ true → write t k (Some o) ≡ write t k (option_map Some o)
+  changed-value b None t k e is = absurd (true≢false (sym is ∙ e))
+  changed-value b (Some v) t k e is = refl
+
+  pub changed-none : (b : Bool) (o : Option V) (t : Entries V) (k : TableKey) → b ≡ is_some o → b ≡ false → write t k None ≡ write t k (option_map Some o)
+  changed-none b None t k e is = refl
+  changed-none b (Some v) t k e is = absurd (true≢false (sym e ∙ is))
+
+pub shorter-popped : {X : Type 0} (c more : Table X) (e : TableKey × X) → fm.entries c ≡ e ∷ fm.entries more → fm.len more < fm.len c
+shorter-popped c more e is = omega (arith, fm.len-entries c, fm.len-entries more, ap length is)
 
 -- ---- lists of entries
 

@@ -1,6 +1,6 @@
 -- Tables whose entries may be empty. An empty entry is room for a value, or, where the table lists changes of another
 -- table, a value that is taken out there.
-use Rattle.std.specs.Prelude.{List, [], ◌∷◌, map, Option, Some, None}
+use Rattle.std.specs.Prelude.{◌≡◌, true, List, [], ◌∷◌, map, Option, Some, None}
 use Rattle.std.specs.Coded.{Coded, coded_ℕ, coded_list, coded_option}
 use Rattle.std.specs.List.{fold}
 use Rattle.std.specs.Option.{option_flatten}
@@ -26,6 +26,10 @@ with_room_by (Some o) k t = t
 -- the table with an entry at the key, an empty one where there was none
 unfoldable pub with_room : {V : Type 0} → TableKey → Entries V → Entries V
 with_room k t = with_room_by (fm.get t k) k t
+
+-- each key of the one has an entry in the other
+unfoldable pub HasRoomFor : {X Y : Type 0} → Table X → Table Y → Type 0
+HasRoomFor more t = (k : TableKey) → fm.contains_key more k ≡ true → fm.contains_key t k ≡ true
 
 -- ---- the values
 

@@ -1,12 +1,12 @@
 //! Tables whose entries may be empty.
 
 ghost use Rattle.std.specs.Prelude.{◌≡◌, ◌∷◌, ◌↔◌, true, is_some, Some, None, IsTrue, IfSome, IfNone, OnOk, OnErr};
-ghost use Rattle.std.specs.Option.{option_copied};
+ghost use Rattle.std.specs.Option.{option_copied, option_map};
 ghost use Rattle.std.specs.List.{list_any};
 ghost use Rattle.std.specs.BTreeMap.{IsOrdered};
 ghost use Rattle.std.specs.FinMap as fm;
 ghost use Rattle.sal_value.specs.Table.{table_by, write};
-ghost use Rattle.sal_entries.specs.Entries.{value_at, with_room, values, word_entries};
+ghost use Rattle.sal_entries.specs.Entries.{value_at, with_room, values, overlaid, HasRoomFor, word_entries};
 
 use crate::keyed::Keyed;
 use sal_value::NoMemory;
@@ -124,6 +124,41 @@ impl<K: Keyed, V: Drop> Entries<K, V> {
         ensures { self.new ≡ write self.old (K.words key.now) None }
     {
         let _ = self.take(key);
+    }
+
+    /// Makes an empty entry at each key that has an entry in the other table and none here.
+    pub fn make_room_for(&mut self, alloc: Global, more: &Entries<K, V>) -> Result<(), NoMemory>
+        ensures ok { OnOk result (HasRoomFor more.now self.new) }
+        ensures keeps { HasRoomFor self.old self.new }
+        ensures values { values self.new ≡ values self.old }
+    {
+        for (key, _) in more.iter() {
+            self.make_room(key.copy_in(alloc)?)?;
+        }
+        Ok(())
+    }
+
+    /// Makes this the entry at a key that has one, or takes that one out where there is no value.
+    fn change(&mut self, key: &K, value: Option<V>)
+        requires { fm.contains_key self.old (K.words key.now) ≡ true }
+        ensures { self.new ≡ write self.old (K.words key.now) (option_map Some value) }
+    {
+        if value.is_some() {
+            self.put(key, value);
+        } else {
+            self.remove(key);
+        }
+    }
+
+    /// Makes these changes, which takes no memory. Where an entry of theirs has no value, there is none here after.
+    pub fn absorb(&mut self, more: Entries<K, V>)
+        requires { HasRoomFor more self.old }
+        ensures { values self.new ≡ overlaid more (values self.old) }
+    {
+        let mut left = more;
+        while let Some((key, value)) = left.pop_first() {
+            self.change(&key, value);
+        }
     }
 
     /// The entries in the order of keys.
