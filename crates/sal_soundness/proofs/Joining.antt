@@ -1,0 +1,148 @@
+-- What belongs and is legal fits; and what `migrate` leaves is typed.
+use Rattle.std.proofs.Common.{◌≡◌, ℕ, Bool, true, false, if◌then◌else◌, nat_eq, List, [], ◌∷◌, map, Option, Some, None, Err, refl, sym, subst, ◌⊎◌, inl, inr, ◌&&◌, ◌∙◌}
+use Rattle.std.specs.Prelude.{nat_lt, slice_get}
+use Rattle.std.specs.Option.{option_map}
+use Rattle.std.proofs.lemmas.Bool.{eq-eqb}
+use Rattle.sal_value.specs.declared.name.Ual.{Ual}
+use Rattle.sal_value.specs.Names.{ual_of}
+use Rattle.sal_value.specs.declared.value.Sort.{Sort}
+use Rattle.sal_value.specs.declared.value.Value.{Value}
+use Rattle.sal_value.specs.Membership.{belongs}
+use Rattle.sal_value.specs.Spelling.{is_legal}
+use Rattle.sal_ast.specs.declared.expression.Expr.{Expr}
+use Rattle.sal_ast.specs.declared.expression.Suffix.{Suffix}
+use Rattle.sal_ast.specs.declared.program.Behavior.{Behavior}
+use Rattle.sal_ast.specs.declared.program.Program.{Program}
+use Rattle.sal_ast.specs.Members.{Field, fields_of}
+use Rattle.sal_ast.specs.Sorts.{Scope, fields_in, type_sort}
+use Rattle.sal_mail.specs.declared.message.Piece.{Piece}
+use Rattle.sal_mail.specs.declared.message.Piece.TheVariants.{Known, Token}
+use Rattle.sal_mail.specs.declared.message.Message.{Message}
+use Rattle.sal_mail.specs.declared.effects.Effects.{Effects}
+use Rattle.sal_mail.specs.declared.fault.Trap.TheVariants.{TooManyMessages}
+use Rattle.sal_handler.specs.declared.turn.Outcome.TheVariants.{Done}
+use Rattle.sal_handler.specs.Calls.{Call}
+use Rattle.sal_handler.specs.Handler as h
+use Rattle.sal_handler.specs.Scopes.{Context}
+use Rattle.sal_handler.specs.Fits.{fits_sort, sorts_of}
+use Rattle.sal_handler.specs.WellFormed.{EachOf, Legal, IsLegalPiece}
+use Rattle.sal_fitting.specs.Handlers.{IsTypedCall, AreTyped}
+use Rattle.sal_fitting.specs.Messages.{is_printable_form, is_printable, IsPiece, ArePieces, IsTypedCallTo}
+use Rattle.sal_fitting.specs.Programs.{field_sorts, signatures}
+use Rattle.sal_fitting.specs.Signatures.{Signatures, migrate_signature, are_of_sorts, fits_sorts}
+use Rattle.sal_types.specs.Signatures.{cons_some, all_some}
+use Rattle.sal_types.specs.declared.signature.Signature.{Signature}
+use Rattle.sal_value.specs.declared.value.Base.{Base}
+use Rattle.sal_value.specs.declared.value.Base.TheVariants as base
+use Rattle.sal_value.specs.declared.value.Value.{out-Value}
+use Rattle.sal_value.specs.declared.value.Value.TheOpen.{Value-F}
+use Rattle.sal_value.specs.Membership.{belongs_alone, belongs_to}
+use Rattle.sal_value.proofs.Equations.{belongs_zero}
+use Rattle.sal_preservation.proofs.Judged.{Kind, Judges, int, boolean, text}
+use Rattle.sal_fitting.proofs.Pieces.{both, split, null_void}
+use Rattle.sal_preservation.specs.States.{AreFields}
+use Rattle.sal_soundness.proofs.Sending.{Sorts, AreMade, CallMade, WaitsIn, OwesIn}
+
+-- ---- belonging and legality together
+
+pub pieces_fit : (waits : ℕ → Sort → Type 0) (ts : List Sort) (ps : List Piece) → AreMade waits ts ps → EachOf IsLegalPiece ps → ArePieces waits ts ps
+pieces_fit waits [] [] m l = tt
+pieces_fit waits [] (p ∷ ps) m l = absurd m
+pieces_fit waits (t ∷ ts) [] m l = absurd m
+pieces_fit waits (t ∷ ts) (Known y ∷ ps) m l = (both (is_legal y) (belongs y t) l.0 m.0, pieces_fit waits ts ps m.1 l.1)
+pieces_fit waits (t ∷ ts) (Token n ∷ ps) m l = (record { sort = t; owed = m.0; covers = λ y e. e }, pieces_fit waits ts ps m.1 l.1)
+
+module _ (bs : List Behavior) (sigs : Signatures) (g : Signature) (from : ℕ) (J : Expr → Scope → Kind → Type 0) (JS : Suffix → Scope → Kind → Kind → Type 0) (makes : ℕ → List Sort) (judges : Judges J JS makes) where
+  pub call_fits : (sorts : Sorts) (r : Context) (y : Message) → CallMade bs sigs g from J JS makes judges sorts r y → EachOf IsLegalPiece y.args →
+      IsTypedCallTo sigs (OwesIn bs sigs g from J JS makes judges sorts r) (WaitsIn bs sigs g from J JS makes judges sorts r) y
+  call_fits sorts r y m l = record { signature = m.signature; is = m.is; args = pieces_fit (WaitsIn bs sigs g from J JS makes judges sorts r) m.signature.params y.args m.args l; reply = m.reply }
+
+fields_fit : (bs : List Behavior) (fs : List Field) (ys : List Value) → AreFields bs fs ys → EachOf Legal ys → fits_sorts (all_some (sorts_of bs (map (λ f. f.sort) fs))) ys ≡ true
+fields_fit bs [] [] a l = refl
+fields_fit bs [] (y ∷ ys) a l = absurd a
+fields_fit bs (f ∷ fs) [] a l = absurd a
+fields_fit bs (f ∷ fs) (y ∷ ys) a l = at (type_sort f.sort bs) a.0.1.0 (fields_fit bs fs ys a.1 l.1)
+  where
+    more : (o : Option (List Sort)) → fits_sorts o ys ≡ true → fits_sorts (cons_some (Some a.0.0) o) (y ∷ ys) ≡ true
+    more None e = absurd cc
+    more (Some ts) e = both (fits_sort (Some a.0.0) y) (are_of_sorts ts ys) (both (is_legal y) (belongs y a.0.0) l.0 a.0.1.1) e
+
+    at : (o : Option Sort) → o ≡ Some a.0.0 → fits_sorts (all_some (sorts_of bs (map (λ q. q.sort) fs))) ys ≡ true → fits_sorts (all_some (o ∷ sorts_of bs (map (λ q. q.sort) fs))) (y ∷ ys) ≡ true
+    at o is e = subst (λ z. fits_sorts (all_some (z ∷ sorts_of bs (map (λ q. q.sort) fs))) (y ∷ ys) ≡ true) (sym is) (more (all_some (sorts_of bs (map (λ q. q.sort) fs))) e)
+
+-- a state of a behaviour that the program has
+pub state_fits : (bs : List Behavior) (o : Option Behavior) (b : Behavior) → o ≡ Some b → (ys : List Value) → AreFields bs (fields_in o) ys → EachOf Legal ys → fits_sorts (field_sorts bs o) ys ≡ true
+state_fits bs None b e ys a l = absurd cc
+state_fits bs (Some q) b e ys a l = fields_fit bs (fields_of q) ys a l
+
+-- ---- `migrate`
+
+pub migrate_typed : (p : Program) (c : Call) (e : Effects) → IsTypedCall (signatures p) migrate_signature c → c.handler ≡ 65535 → h.handle p c ≡ Done e → AreTyped (signatures p) migrate_signature c e
+unfolding h.handle
+migrate_typed p c e call is done = late (nat_lt 18446744073709547520 c.serial) done
+  where
+    unchanged : AreTyped (signatures p) migrate_signature c (h.no_effects c)
+    unchanged = record {
+      sorts = λ q. None;
+      new = λ q t e. absurd cc;
+      answer = null_void;
+      messages = tt;
+      joins = tt;
+      fields = call.fields;
+      actors = tt;
+      creations = tt;
+    }
+
+    moved : (o : Option Ual) → h.outcome_of (h.migrate_if_locator o c) ≡ Done e → AreTyped (signatures p) migrate_signature c e
+    moved None d = absurd cc
+    moved (Some l) d = let same : h.no_effects c ≡ e = cc in subst (AreTyped (signatures p) migrate_signature c) same unchanged
+
+    here : (b : Bool) → b ≡ true → h.outcome_of (if b then h.run_migrate c else h.run_in_behavior (slice_get p.behaviors c.behavior) p c) ≡ Done e → AreTyped (signatures p) migrate_signature c e
+    here true t d = moved (ual_of (h.first_text c.args)) d
+    here false t d = absurd cc
+
+    late : (b : Bool) → h.outcome_of (if b then Err TooManyMessages else h.run_called p c) ≡ Done e → AreTyped (signatures p) migrate_signature c e
+    late true d = absurd cc
+    late false d = here (nat_eq c.handler 65535) (eq-eqb c.handler 65535 is) d
+
+-- ---- prints
+
+printed_int : (l : Value-F Value) → belongs_alone l base.Int ≡ true → is_printable_form l ≡ true
+printed_int (Value-F.Int n) e = refl
+printed_int (Value-F.Bool b) e = absurd cc
+printed_int (Value-F.Str w) e = absurd cc
+printed_int (Value-F.Array xs) e = absurd cc
+printed_int (Value-F.Ref n) e = absurd cc
+printed_int Value-F.Null e = absurd cc
+
+printed_bool : (l : Value-F Value) → belongs_alone l base.Bool ≡ true → is_printable_form l ≡ true
+printed_bool (Value-F.Bool b) e = refl
+printed_bool (Value-F.Int n) e = absurd cc
+printed_bool (Value-F.Str w) e = absurd cc
+printed_bool (Value-F.Array xs) e = absurd cc
+printed_bool (Value-F.Ref n) e = absurd cc
+printed_bool Value-F.Null e = absurd cc
+
+printed_text : (l : Value-F Value) → belongs_alone l base.Str ≡ true → is_printable_form l ≡ true
+printed_text (Value-F.Str w) e = refl
+printed_text (Value-F.Int n) e = absurd cc
+printed_text (Value-F.Bool b) e = absurd cc
+printed_text (Value-F.Array xs) e = absurd cc
+printed_text (Value-F.Ref n) e = absurd cc
+printed_text Value-F.Null e = absurd cc
+
+-- what `print` takes
+abbrev pub PrintedSort : Sort → Type 0
+PrintedSort t = (int ≡ t) ⊎ ((boolean ≡ t) ⊎ (text ≡ t))
+
+covered : (b : Base) → ((l : Value-F Value) → belongs_alone l b ≡ true → is_printable_form l ≡ true) → (y : Value) → is_legal y && belongs_to y b 0 ≡ true → is_printable y ≡ true
+covered b f y e = let q = split (is_legal y) (belongs_to y b 0) e in both (is_legal y) (is_printable_form (out-Value y)) q.0 (f (out-Value y) (sym (belongs_zero y b 0 refl) ∙ q.1))
+
+-- so a token of such a type may be printed
+pub print_covers : (t : Sort) → PrintedSort t → (y : Value) → fits_sort (Some t) y ≡ true → is_printable y ≡ true
+print_covers t (inl e) y h = covered base.Int printed_int y (subst (λ z. fits_sort (Some z) y ≡ true) (sym e) h)
+print_covers t (inr (inl e)) y h = covered base.Bool printed_bool y (subst (λ z. fits_sort (Some z) y ≡ true) (sym e) h)
+print_covers t (inr (inr e)) y h = covered base.Str printed_text y (subst (λ z. fits_sort (Some z) y ≡ true) (sym e) h)
+
+pub print_token : (waits : ℕ → Sort → Type 0) (n : ℕ) (t : Sort) → waits n t → PrintedSort t → IsPiece waits is_printable (Token n)
+print_token waits n t w p = record { sort = t; owed = w; covers = print_covers t p }
