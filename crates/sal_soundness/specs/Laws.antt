@@ -1,17 +1,16 @@
--- What `migrate` leaves is typed.
-use Rattle.std.specs.Prelude.{◌≡◌}
-use Rattle.sal_ast.specs.declared.program.Program.{Program}
-use Rattle.sal_mail.specs.declared.constants.TheConstants.{MIGRATE}
-use Rattle.sal_mail.specs.declared.effects.Effects.{Effects}
-use Rattle.sal_handler.specs.declared.turn.Outcome.TheVariants.{Done}
-use Rattle.sal_handler.specs.Calls.{Call}
-use Rattle.sal_handler.specs.Handler.{handle}
-use Rattle.sal_fitting.specs.Signatures.{migrate_signature}
-use Rattle.sal_fitting.specs.Handlers.{IsTypedCall, AreTyped}
-use Rattle.sal_fitting.specs.Programs.{signatures}
+-- Handlers of accepted programs keep types.
+use Rattle.std.specs.Prelude.{◌≡◌, ◌≢◌, true, List, [], Ok}
+use Rattle.std.specs.List.{list_any}
+use Rattle.sal_ast.specs.declared.statement.Stmt.{Stmt}
+use Rattle.sal_types.specs.Endings.{surely_ends}
+use Rattle.sal_handler.specs.declared.state.Flow.{Flow}
+use Rattle.sal_handler.specs.declared.state.Flow.TheVariants.{Next}
+use Rattle.sal_handler.specs.declared.state.State.{State}
+use Rattle.sal_handler.specs.Scopes.{Context}
+use Rattle.sal_handler.specs.Statements.{exec_block}
 
--- Of every program: where a call of `migrate` fits, what it leaves is typed.
-abbrev pub MigrateKeepsTypes : Type 0
-MigrateKeepsTypes =
-    (p : Program) (c : Call) (e : Effects) → IsTypedCall (signatures p) migrate_signature c → c.handler ≡ MIGRATE
-    → handle p c ≡ Done e → AreTyped (signatures p) migrate_signature c e
+-- Outside of joins a body with a statement that surely ends doesn't fall off its end: it returns, or its reply was passed on.
+abbrev pub BodiesThatEndReturn : Type 0
+BodiesThatEndReturn =
+    (body : List Stmt) → list_any surely_ends body ≡ true → (r : Context) → r.within ≡ [] → (old new : State) (f : Flow)
+    → exec_block body r old ≡ Ok (f, new) → f ≢ Next

@@ -1,8 +1,8 @@
 //! Laws of handlers: functions without work, whose contracts are the laws.
 
-ghost use Rattle.sal_soundness.specs.Laws.{MigrateKeepsTypes};
+ghost use Rattle.sal_soundness.specs.Laws.{BodiesThatEndReturn};
 
-/// Where a call of `migrate` fits, what it leaves is typed.
-pub fn migrate_keeps_types()
-    ensures { MigrateKeepsTypes }
+/// A body that surely ends doesn't fall off its end.
+pub fn bodies_that_end_return()
+    ensures { BodiesThatEndReturn }
 {}

@@ -1,6 +1,6 @@
-//! What handlers of typed programs leave is typed.
+//! What handlers of accepted programs leave is typed.
 #![tactic(auto)]
 
 mod law;
 
-pub use law::migrate_keeps_types;
+pub use law::bodies_that_end_return;
