@@ -1,4 +1,4 @@
--- What belongs and is legal fits; and what `migrate` leaves is typed.
+-- What belongs and is legal fits.
 use Rattle.std.proofs.Common.{◌≡◌, ℕ, Bool, true, false, if◌then◌else◌, nat_eq, List, [], ◌∷◌, map, Option, Some, None, Err, refl, sym, subst, ◌⊎◌, inl, inr, ◌&&◌, ◌∙◌}
 use Rattle.std.specs.Prelude.{nat_lt, slice_get}
 use Rattle.std.specs.Option.{option_map}
@@ -9,14 +9,14 @@ use Rattle.sal_value.specs.declared.value.Sort.{Sort}
 use Rattle.sal_value.specs.declared.value.Value.{Value}
 use Rattle.sal_value.specs.Membership.{belongs}
 use Rattle.sal_value.specs.Spelling.{is_legal}
-use Rattle.sal_ast.specs.declared.expression.Expr.{Expr}
-use Rattle.sal_ast.specs.declared.expression.Suffix.{Suffix}
 use Rattle.sal_ast.specs.declared.program.Behavior.{Behavior}
 use Rattle.sal_ast.specs.declared.program.Program.{Program}
 use Rattle.sal_ast.specs.Members.{Field, fields_of}
 use Rattle.sal_ast.specs.Sorts.{Scope, fields_in, type_sort}
 use Rattle.sal_mail.specs.declared.message.Piece.{Piece}
 use Rattle.sal_mail.specs.declared.message.Piece.TheVariants.{Known, Token}
+use Rattle.sal_mail.specs.declared.message.Target.{Target}
+use Rattle.sal_mail.specs.declared.message.Target.TheVariants as target
 use Rattle.sal_mail.specs.declared.message.Message.{Message}
 use Rattle.sal_mail.specs.declared.effects.Effects.{Effects}
 use Rattle.sal_mail.specs.declared.fault.Trap.TheVariants.{TooManyMessages}
@@ -27,7 +27,7 @@ use Rattle.sal_handler.specs.Scopes.{Context}
 use Rattle.sal_handler.specs.Fits.{fits_sort, sorts_of}
 use Rattle.sal_handler.specs.WellFormed.{EachOf, Legal, IsLegalPiece}
 use Rattle.sal_fitting.specs.Handlers.{IsTypedCall, AreTyped}
-use Rattle.sal_fitting.specs.Messages.{is_printable_form, is_printable, IsPiece, ArePieces, IsTypedCallTo}
+use Rattle.sal_fitting.specs.Messages.{is_printable_form, is_printable, ArePieces, ArePrintable, IsTypedCallTo, IsTypedTo, IsTypedMessage}
 use Rattle.sal_fitting.specs.Programs.{field_sorts, signatures}
 use Rattle.sal_fitting.specs.Signatures.{Signatures, migrate_signature, are_of_sorts, fits_sorts}
 use Rattle.sal_types.specs.Signatures.{cons_some, all_some}
@@ -38,10 +38,9 @@ use Rattle.sal_value.specs.declared.value.Value.{out-Value}
 use Rattle.sal_value.specs.declared.value.Value.TheOpen.{Value-F}
 use Rattle.sal_value.specs.Membership.{belongs_alone, belongs_to}
 use Rattle.sal_value.proofs.Equations.{belongs_zero}
-use Rattle.sal_preservation.proofs.Judged.{Kind, Judges, int, boolean, text}
 use Rattle.sal_fitting.proofs.Pieces.{both, split, null_void}
 use Rattle.sal_preservation.specs.States.{AreFields}
-use Rattle.sal_soundness.proofs.Sending.{Sorts, AreMade, CallMade, WaitsIn, OwesIn}
+use Rattle.sal_soundness.proofs.Sending.{Sorts, PrintedSort, PrintsMade, AreMade, CallMade, MadeTo, MessageMade, WaitsIn, OwesIn}
 
 -- ---- belonging and legality together
 
@@ -52,10 +51,10 @@ pieces_fit waits (t ∷ ts) [] m l = absurd m
 pieces_fit waits (t ∷ ts) (Known y ∷ ps) m l = (both (is_legal y) (belongs y t) l.0 m.0, pieces_fit waits ts ps m.1 l.1)
 pieces_fit waits (t ∷ ts) (Token n ∷ ps) m l = (record { sort = t; owed = m.0; covers = λ y e. e }, pieces_fit waits ts ps m.1 l.1)
 
-module _ (bs : List Behavior) (sigs : Signatures) (g : Signature) (from : ℕ) (J : Expr → Scope → Kind → Type 0) (JS : Suffix → Scope → Kind → Kind → Type 0) (makes : ℕ → List Sort) (judges : Judges J JS makes) where
-  pub call_fits : (sorts : Sorts) (r : Context) (y : Message) → CallMade bs sigs g from J JS makes judges sorts r y → EachOf IsLegalPiece y.args →
-      IsTypedCallTo sigs (OwesIn bs sigs g from J JS makes judges sorts r) (WaitsIn bs sigs g from J JS makes judges sorts r) y
-  call_fits sorts r y m l = record { signature = m.signature; is = m.is; args = pieces_fit (WaitsIn bs sigs g from J JS makes judges sorts r) m.signature.params y.args m.args l; reply = m.reply }
+module _ (bs : List Behavior) (sigs : Signatures) (g : Signature) (from : ℕ) where
+  pub call_fits : (sorts : Sorts) (r : Context) (y : Message) → CallMade bs sigs g from sorts r y → EachOf IsLegalPiece y.args →
+      IsTypedCallTo sigs (OwesIn bs sigs g from sorts r) (WaitsIn bs sigs g from sorts r) y
+  call_fits sorts r y m l = record { signature = m.signature; is = m.is; args = pieces_fit (WaitsIn bs sigs g from sorts r) m.signature.params y.args m.args l; reply = m.reply }
 
 fields_fit : (bs : List Behavior) (fs : List Field) (ys : List Value) → AreFields bs fs ys → EachOf Legal ys → fits_sorts (all_some (sorts_of bs (map (λ f. f.sort) fs))) ys ≡ true
 fields_fit bs [] [] a l = refl
@@ -74,36 +73,6 @@ fields_fit bs (f ∷ fs) (y ∷ ys) a l = at (type_sort f.sort bs) a.0.1.0 (fiel
 pub state_fits : (bs : List Behavior) (o : Option Behavior) (b : Behavior) → o ≡ Some b → (ys : List Value) → AreFields bs (fields_in o) ys → EachOf Legal ys → fits_sorts (field_sorts bs o) ys ≡ true
 state_fits bs None b e ys a l = absurd cc
 state_fits bs (Some q) b e ys a l = fields_fit bs (fields_of q) ys a l
-
--- ---- `migrate`
-
-pub migrate_typed : (p : Program) (c : Call) (e : Effects) → IsTypedCall (signatures p) migrate_signature c → c.handler ≡ 65535 → h.handle p c ≡ Done e → AreTyped (signatures p) migrate_signature c e
-unfolding h.handle
-migrate_typed p c e call is done = late (nat_lt 18446744073709547520 c.serial) done
-  where
-    unchanged : AreTyped (signatures p) migrate_signature c (h.no_effects c)
-    unchanged = record {
-      sorts = λ q. None;
-      new = λ q t e. absurd cc;
-      answer = null_void;
-      messages = tt;
-      joins = tt;
-      fields = call.fields;
-      actors = tt;
-      creations = tt;
-    }
-
-    moved : (o : Option Ual) → h.outcome_of (h.migrate_if_locator o c) ≡ Done e → AreTyped (signatures p) migrate_signature c e
-    moved None d = absurd cc
-    moved (Some l) d = let same : h.no_effects c ≡ e = cc in subst (AreTyped (signatures p) migrate_signature c) same unchanged
-
-    here : (b : Bool) → b ≡ true → h.outcome_of (if b then h.run_migrate c else h.run_in_behavior (slice_get p.behaviors c.behavior) p c) ≡ Done e → AreTyped (signatures p) migrate_signature c e
-    here true t d = moved (ual_of (h.first_text c.args)) d
-    here false t d = absurd cc
-
-    late : (b : Bool) → h.outcome_of (if b then Err TooManyMessages else h.run_called p c) ≡ Done e → AreTyped (signatures p) migrate_signature c e
-    late true d = absurd cc
-    late false d = here (nat_eq c.handler 65535) (eq-eqb c.handler 65535 is) d
 
 -- ---- prints
 
@@ -131,10 +100,6 @@ printed_text (Value-F.Array xs) e = absurd cc
 printed_text (Value-F.Ref n) e = absurd cc
 printed_text Value-F.Null e = absurd cc
 
--- what `print` takes
-abbrev pub PrintedSort : Sort → Type 0
-PrintedSort t = (int ≡ t) ⊎ ((boolean ≡ t) ⊎ (text ≡ t))
-
 covered : (b : Base) → ((l : Value-F Value) → belongs_alone l b ≡ true → is_printable_form l ≡ true) → (y : Value) → is_legal y && belongs_to y b 0 ≡ true → is_printable y ≡ true
 covered b f y e = let q = split (is_legal y) (belongs_to y b 0) e in both (is_legal y) (is_printable_form (out-Value y)) q.0 (f (out-Value y) (sym (belongs_zero y b 0 refl) ∙ q.1))
 
@@ -144,5 +109,17 @@ print_covers t (inl e) y h = covered base.Int printed_int y (subst (λ z. fits_s
 print_covers t (inr (inl e)) y h = covered base.Bool printed_bool y (subst (λ z. fits_sort (Some z) y ≡ true) (sym e) h)
 print_covers t (inr (inr e)) y h = covered base.Str printed_text y (subst (λ z. fits_sort (Some z) y ≡ true) (sym e) h)
 
-pub print_token : (waits : ℕ → Sort → Type 0) (n : ℕ) (t : Sort) → waits n t → PrintedSort t → IsPiece waits is_printable (Token n)
-print_token waits n t w p = record { sort = t; owed = w; covers = print_covers t p }
+prints_fit : (waits : ℕ → Sort → Type 0) (ps : List Piece) → PrintsMade waits ps → EachOf IsLegalPiece ps → ArePrintable waits ps
+prints_fit waits [] h l = tt
+prints_fit waits (Known y ∷ []) h l = print_covers h.0 h.1.0 y (both (is_legal y) (belongs y h.0) l.0 h.1.1)
+prints_fit waits (Token n ∷ []) h l = record { sort = h.0; owed = h.1.1; covers = print_covers h.0 h.1.0 }
+prints_fit waits (p ∷ q ∷ ps) h l = absurd h
+
+module _ (bs : List Behavior) (sigs : Signatures) (g : Signature) (from : ℕ) where
+  -- a message whose known arguments are legal
+  pub message_fits : (sorts : Sorts) (r : Context) (y : Message) → MessageMade bs sigs g from sorts r y → EachOf IsLegalPiece y.args → IsTypedMessage sigs (OwesIn bs sigs g from sorts r) (WaitsIn bs sigs g from sorts r) y
+  message_fits sorts r y h l = by y.target h
+    where
+      by : (to : Target) → MadeTo bs sigs g from sorts r to y → IsTypedTo sigs (OwesIn bs sigs g from sorts r) (WaitsIn bs sigs g from sorts r) to y
+      by (target.Actor n) h = call_fits bs sigs g from sorts r y h l
+      by target.Output h = record { behavior = h.behavior; handler = h.handler; args = prints_fit (WaitsIn bs sigs g from sorts r) y.args h.args l; reply = h.reply }

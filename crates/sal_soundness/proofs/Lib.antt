@@ -1,5 +1,8 @@
-pub mod Sending
-pub mod Joining
-pub mod Executing
-pub mod Signing
-pub mod Sends
+mod Anywhere
+mod Assigning
+mod Ending
+mod Executing
+mod Joining
+mod Sending
+mod Sends
+mod Signing

@@ -6,11 +6,12 @@ use Rattle.std.specs.Prelude.{cond, map, not, nat_lt, slice_get, slice_set, repl
 use Rattle.std.proofs.lemmas.Bool.{eqb-true, eq-eqb, ne_eqb}
 use Rattle.sal_value.specs.declared.name.Name.{Name}
 use Rattle.sal_value.specs.declared.value.Sort.{Sort}
-use Rattle.sal_value.specs.declared.value.Value.{Value}
+use Rattle.sal_value.specs.declared.value.Value.{Value, out-Value}
+use Rattle.sal_value.specs.declared.value.Value.TheOpen.{Value-F}
+use Rattle.sal_value.specs.declared.value.Value.TheVariants.{Ref}
 use Rattle.sal_value.proofs.Keys.{same_names}
 use Rattle.sal_ast.specs.declared.program.Ident.{Ident}
 use Rattle.sal_ast.specs.declared.expression.Expr.{Expr, out-Expr}
-use Rattle.sal_ast.specs.declared.expression.Suffix.{Suffix}
 use Rattle.sal_ast.specs.declared.program.Behavior.{Behavior}
 use Rattle.sal_ast.specs.declared.statement.Send.{Send}
 use Rattle.sal_ast.specs.declared.statement.Arg.{Arg}
@@ -20,6 +21,7 @@ use Rattle.sal_ast.specs.declared.statement.Aim.TheVariants as aim
 use Rattle.sal_ast.specs.declared.statement.Property.{Property}
 use Rattle.sal_ast.specs.declared.statement.Property.TheVariants as property
 use Rattle.sal_ast.specs.Sorts.{Scope, Variable, target_behavior}
+use Rattle.sal_mail.specs.declared.constants.TheConstants.{OUTPUT, PRINTLN}
 use Rattle.sal_mail.specs.declared.message.Piece.{Piece}
 use Rattle.sal_mail.specs.declared.message.Piece.TheVariants as piece
 use Rattle.sal_mail.specs.declared.message.Reply.{Reply}
@@ -50,18 +52,24 @@ use Rattle.sal_source.specs.Keys.{name_key}
 use Rattle.sal_value.proofs.Tables.{some_is, same_words, words_refl}
 use Rattle.sal_fitting.specs.Handlers.{OwesNew}
 use Rattle.sal_fitting.specs.Messages.{IsSlotOf, IsTypedJoin, join_sort}
-use Rattle.sal_fitting.specs.Signatures.{Signatures, signature_at}
+use Rattle.sal_fitting.specs.Signatures.{Signatures, signature_at, void_sort}
 use Rattle.sal_types.specs.declared.signature.Signature.{Signature}
 use Rattle.sal_fitting.proofs.Giving.{join_more}
-use Rattle.sal_preservation.proofs.Judged.{Kind, Assignable, Judges}
+use Rattle.sal_preservation.proofs.Judged.{Kind, Assignable, int, boolean, text}
 use Rattle.sal_fitting.proofs.Pieces.{both, split}
-use Rattle.sal_preservation.specs.States.{IsOf as Has, FieldsOf as StateOf}
-use Rattle.sal_preservation.proofs.Lookups.{IsOf, name_is, own_is, all_keep}
-use Rattle.sal_preservation.proofs.Expressions as x
+use Rattle.sal_preservation.specs.States.{IsOf as Has}
 use Rattle.sal_preservation.proofs.Expressions.{Belongs, Sits, Went, Keeps}
+use Rattle.sal_soundness.proofs.Anywhere as anywhere
+use Rattle.sal_soundness.proofs.Anywhere.{HasFields, Judgement, Can}
 
 abbrev pub Sorts : Type 0
 Sorts = Reply → Option Sort
+
+-- what a handler returns is of its result
+abbrev pub FlowOk : Sort → Flow → Type 0
+FlowOk result Next = Unit {0}
+FlowOk result (Returned y) = Belongs result y
+FlowOk result Passed = Unit {0}
 
 -- ---- a number gets a type
 
@@ -151,6 +159,70 @@ append_one : {A : Type 0} (xs : List A) (t : A) (ts : List A) → (xs ++ t ∷ [
 append_one [] t ts = refl
 append_one (a ∷ xs) t ts = ap (λ z. a ∷ z) (append_one xs t ts)
 
+-- what `print` takes
+abbrev pub PrintedSort : Sort → Type 0
+PrintedSort t = (int ≡ t) ⊎ ((boolean ≡ t) ⊎ (text ≡ t))
+
+-- none, or one of these
+abbrev pub PrintedSorts : List Sort → Type 0
+PrintedSorts [] = Unit {0}
+PrintedSorts (t ∷ []) = PrintedSort t
+PrintedSorts (t ∷ u ∷ ts) = ⊥
+
+-- no argument, or one that is printed
+abbrev pub PrintsMade : (ℕ → Sort → Type 0) → List Piece → Type 0
+PrintsMade waits [] = Unit {0}
+PrintsMade waits (p ∷ []) = (t : Sort) × (PrintedSort t × IsMade waits t p)
+PrintsMade waits (p ∷ q ∷ ps) = ⊥
+
+prints_of : (waits : ℕ → Sort → Type 0) (ts : List Sort) (ps : List Piece) → PrintedSorts ts → AreMade waits ts ps → PrintsMade waits ps
+prints_of waits [] [] f h = tt
+prints_of waits [] (p ∷ ps) f h = absurd h
+prints_of waits (t ∷ []) [] f h = absurd h
+prints_of waits (t ∷ []) (p ∷ []) f h = (t, (f, h.0))
+prints_of waits (t ∷ []) (p ∷ q ∷ ps) f h = absurd h.1
+prints_of waits (t ∷ u ∷ ts) ps f h = absurd f
+
+made_one : (waits waits' : ℕ → Sort → Type 0) → ((n : ℕ) (t : Sort) → waits n t → waits' n t) → (t : Sort) (p : Piece) → IsMade waits t p → IsMade waits' t p
+made_one waits waits' f t (piece.Known y) h = h
+made_one waits waits' f t (piece.Token n) h = f n t h
+
+prints_more : (waits waits' : ℕ → Sort → Type 0) → ((n : ℕ) (t : Sort) → waits n t → waits' n t) → (ps : List Piece) → PrintsMade waits ps → PrintsMade waits' ps
+prints_more waits waits' f [] h = tt
+prints_more waits waits' f (p ∷ []) h = (h.0, (h.1.0, made_one waits waits' f h.0 p h.1.1))
+prints_more waits waits' f (p ∷ q ∷ ps) h = absurd h
+
+-- ---- targets
+
+-- what a target means
+abbrev pub TargetFor : Aim → Target → Type 0
+TargetFor aim.Own (target.Actor n) = Unit {0}
+TargetFor aim.Own target.Output = ⊥
+TargetFor (aim.Output at) (target.Actor n) = ⊥
+TargetFor (aim.Output at) target.Output = Unit {0}
+TargetFor (aim.Actor e) (target.Actor n) = Unit {0}
+TargetFor (aim.Actor e) target.Output = ⊥
+
+abbrev pub TargetIfAny : Aim → Option Target → Type 0
+TargetIfAny a None = Unit {0}
+TargetIfAny a (Some to) = TargetFor a to
+
+own_target : (l : Value-F Value) → TargetIfAny aim.Own (m.target_in l)
+own_target (Value-F.Ref n) = tt
+own_target (Value-F.Int n) = tt
+own_target (Value-F.Bool b) = tt
+own_target (Value-F.Str w) = tt
+own_target (Value-F.Array xs) = tt
+own_target Value-F.Null = tt
+
+actor_target : (e : Expr) (l : Value-F Value) → TargetIfAny (aim.Actor e) (m.target_in l)
+actor_target e (Value-F.Ref n) = tt
+actor_target e (Value-F.Int n) = tt
+actor_target e (Value-F.Bool b) = tt
+actor_target e (Value-F.Str w) = tt
+actor_target e (Value-F.Array xs) = tt
+actor_target e Value-F.Null = tt
+
 -- the token of a local, if it is one
 abbrev pub tok_in : Option (Option Sort) → Option Sort
 tok_in None = None
@@ -164,28 +236,32 @@ tok_at (Some i) ks = tok_in (slice_get ks i)
 abbrev pub tokens_of : Scope → List (Option Sort) → List ℕ → Option Sort
 tokens_of env ks n = tok_at (position (λ (v : Variable). bytes_eq v.name n) env.locals) ks
 
-module _ (bs : List Behavior) (sigs : Signatures) (g : Signature) (from : ℕ) (J : Expr → Scope → Kind → Type 0) (JS : Suffix → Scope → Kind → Kind → Type 0) (makes : ℕ → List Sort) (judges : Judges J JS makes) where
-  abbrev pub Can : Context → Type 0
-  Can = x.Able (StateOf bs) J JS makes judges (IsOf bs) (name_is bs) (own_is bs)
-
+module _ (bs : List Behavior) (sigs : Signatures) (g : Signature) (from : ℕ) where
   abbrev pub WaitsIn : Sorts → Context → ℕ → Sort → Type 0
   WaitsIn sorts r n t = sorts (Tok r.me n) ≡ Some t
 
   abbrev pub OwesIn : Sorts → Context → Reply → Sort → Type 0
   OwesIn sorts r = OwesNew sorts r.reply g.result
 
-  -- a message to an actor; of those to the output nothing is said here
+  -- a message to an actor
   pub record CallMade (sorts : Sorts) (r : Context) (y : Message) : Type 0 where
     pub signature : Signature
     pub is : signature_at sigs y.behavior y.handler ≡ Some signature
     pub args : AreMade (WaitsIn sorts r) signature.params y.args
     pub reply : OwesIn sorts r y.reply signature.result
 
-  abbrev MadeTo : Sorts → Context → Target → Message → Type 0
-  MadeTo sorts r (target.Actor n) y = CallMade sorts r y
-  MadeTo sorts r target.Output y = Unit {0}
+  -- a message to the output
+  pub record PrintMade (sorts : Sorts) (r : Context) (y : Message) : Type 0 where
+    pub behavior : y.behavior ≡ OUTPUT
+    pub handler : y.handler ≤ PRINTLN
+    pub args : PrintsMade (WaitsIn sorts r) y.args
+    pub reply : OwesIn sorts r y.reply void_sort
 
-  abbrev MessageMade : Sorts → Context → Message → Type 0
+  abbrev pub MadeTo : Sorts → Context → Target → Message → Type 0
+  MadeTo sorts r (target.Actor n) y = CallMade sorts r y
+  MadeTo sorts r target.Output y = PrintMade sorts r y
+
+  abbrev pub MessageMade : Sorts → Context → Message → Type 0
   MessageMade sorts r y = MadeTo sorts r y.target y
 
   abbrev pub JoinMade : Sorts → Context → Join → Type 0
@@ -261,14 +337,14 @@ module _ (bs : List Behavior) (sigs : Signatures) (g : Signature) (from : ℕ) (
       none n (Some j) i = local_none sorts r ks s.locals h j i
 
   -- the places of the innermost join have this type
-  abbrev PlacesIn : Sorts → Context → List EnclosingJoin → Option Sort → Type 0
+  abbrev pub PlacesIn : Sorts → Context → List EnclosingJoin → Option Sort → Type 0
   PlacesIn sorts r [] item = item ≡ None
   PlacesIn sorts r (i ∷ is) item = (t : Sort) × ((item ≡ Some t) × ((at : ℕ) → sorts (Place r.me i.join at) ≡ Some t))
 
   module _ (r : Context) (env : Scope) (tokens : List (Option Sort)) (item : Option Sort) where
     pub record Holds (sorts : Sorts) (s : State) : Type 0 where
       pub scope : env ≡ scope_of r s
-      pub sits : Sits (StateOf bs) r s
+      pub sits : Sits (HasFields bs) r s
       pub low : from ≤ s.serial
       pub new : (q : Reply) (t : Sort) → sorts q ≡ Some t → IsNewReply r.me from s.serial q
       pub named : AreLocals sorts r tokens s.locals
@@ -284,7 +360,12 @@ module _ (bs : List Behavior) (sigs : Signatures) (g : Signature) (from : ℕ) (
   owes_more sorts later f r q t (inr (inr e)) = inr (inr (f q t e))
 
   to_more : (sorts later : Sorts) → ((q : Reply) (t : Sort) → sorts q ≡ Some t → later q ≡ Some t) → (r : Context) (to : Target) (y : Message) → MadeTo sorts r to y → MadeTo later r to y
-  to_more sorts later f r target.Output y h = tt
+  to_more sorts later f r target.Output y h = record {
+    behavior = h.behavior;
+    handler = h.handler;
+    args = prints_more (WaitsIn sorts r) (WaitsIn later r) (λ k t e. f (Tok r.me k) t e) y.args h.args;
+    reply = owes_more sorts later f r y.reply void_sort h.reply;
+  }
   to_more sorts later f r (target.Actor n) y h = record {
     signature = h.signature;
     is = h.is;
@@ -305,13 +386,13 @@ module _ (bs : List Behavior) (sigs : Signatures) (g : Signature) (from : ℕ) (
     pub grows : (q : Reply) (t : Sort) → sorts q ≡ Some t → later q ≡ Some t
     pub held : Holds r env tokens item later u
 
-  module _ (r : Context) (can : Can r) (env : Scope) (tokens : List (Option Sort)) (item : Option Sort) where
-    abbrev Held : Sorts → State → Type 0
+  module _ (r : Context) (can : Can bs r) (env : Scope) (tokens : List (Option Sort)) (item : Option Sort) where
+    abbrev pub Held : Sorts → State → Type 0
     Held = Holds r env tokens item
 
-    went_held : (sorts : Sorts) (s t : State) → Held sorts s → Went (StateOf bs) r s t → Held sorts t
+    went_held : (sorts : Sorts) (s t : State) → Held sorts s → Went (HasFields bs) r s t → Held sorts t
     went_held sorts s t h w = record {
-      scope = x.scope_stays (StateOf bs) J JS makes judges (IsOf bs) (name_is bs) (own_is bs) r s t env h.scope w;
+      scope = anywhere.scope_stays bs r s t env h.scope w;
       sits = w.sits;
       low = omega (arith, h.low, w.serial);
       new = λ q u e. new_more r.me from s.serial t.serial w.serial q (h.new q u e);
@@ -321,13 +402,13 @@ module _ (bs : List Behavior) (sigs : Signatures) (g : Signature) (from : ℕ) (
       joins = subst (EachOf (JoinMade sorts r)) (sym w.joins) h.joins;
     }
 
-    pub eval_held : (sorts : Sorts) (e : Expr) (k : Kind) → J e env k → (s : State) → Held sorts s → After (λ y t. Held sorts t × Has k y) (eval e r s)
-    eval_held sorts e k j s h = after_more (λ y t. Went (StateOf bs) r s t × Has k y) (λ y t. Held sorts t × Has k y) (eval e r s) (λ y t p. (went_held sorts s t h p.0, p.1)) ((all_keep bs J JS makes judges e env k j).keeps r can s h.scope h.sits).holds
+    pub eval_held : (sorts : Sorts) (e : Expr) (k : Kind) → Judgement bs e env k → (s : State) → Held sorts s → After (λ y t. Held sorts t × Has k y) (eval e r s)
+    eval_held sorts e k j s h = after_more (λ y t. Went (HasFields bs) r s t × Has k y) (λ y t. Held sorts t × Has k y) (eval e r s) (λ y t p. (went_held sorts s t h p.0, p.1)) (anywhere.eval_keeps bs e env k j r can s h.scope h.sits).holds
 
     -- ---- arguments
 
     -- the stage before has this number, and this type
-    abbrev BeforeIs : Sorts → Option ℕ → Option Sort → Type 0
+    abbrev pub BeforeIs : Sorts → Option ℕ → Option Sort → Type 0
     BeforeIs sorts number t = (u : Sort) → t ≡ Some u → (n : ℕ) × ((number ≡ Some n) × (sorts (Tok r.me n) ≡ Some u))
 
     -- what typing gives of an argument: a token of the type, or an expression that is no token
@@ -335,7 +416,7 @@ module _ (bs : List Behavior) (sigs : Signatures) (g : Signature) (from : ℕ) (
     ArgOf (arg.Token at) before t = before ≡ Some t
     ArgOf (arg.Expr e) before t =
         ((id : Ident) × ((m.name_alone (out-Expr e) ≡ Some id) × (tokens_of env tokens id.text ≡ Some t)))
-        ⊎ (((id : Ident) → m.name_alone (out-Expr e) ≡ Some id → tokens_of env tokens id.text ≡ None) × ((k : Kind) × (J e env k × Assignable k t)))
+        ⊎ (((id : Ident) → m.name_alone (out-Expr e) ≡ Some id → tokens_of env tokens id.text ≡ None) × ((k : Kind) × (Judgement bs e env k × Assignable k t)))
 
     abbrev pub ArgsOf : List Arg → Option Sort → List Sort → Type 0
     ArgsOf [] before [] = Unit {0}
@@ -362,7 +443,7 @@ module _ (bs : List Behavior) (sigs : Signatures) (g : Signature) (from : ℕ) (
         subst (λ o. After (λ p u. Held sorts u × IsMade (WaitsIn sorts r) t p) (m.piece_by o e r s)) (sym (some_token e s f.0 z.0 f.1.0 z.1.0)) (h, z.1.1)
     arg_made sorts (arg.Expr e) number before t b (inr f) s h =
         subst (λ o. After (λ p u. Held sorts u × IsMade (WaitsIn sorts r) t p) (m.piece_by o e r s)) (sym (no_token e sorts s h f.0))
-        (then_after (λ y u. Held sorts u × Has f.1.0 y) (λ p u. Held sorts u × IsMade (WaitsIn sorts r) t p) (eval e r s) (λ y. pure (piece.Known y)) (eval_held sorts e f.1.0 f.1.1.0 s h) (λ y u q. (q.0, x.assigned (StateOf bs) J JS makes judges (IsOf bs) (name_is bs) (own_is bs) f.1.0 t f.1.1.1 y q.1)))
+        (then_after (λ y u. Held sorts u × Has f.1.0 y) (λ p u. Held sorts u × IsMade (WaitsIn sorts r) t p) (eval e r s) (λ y. pure (piece.Known y)) (eval_held sorts e f.1.0 f.1.1.0 s h) (λ y u q. (q.0, anywhere.assigned bs f.1.0 t f.1.1.1 y q.1)))
 
     args_made : (sorts : Sorts) (more : List Arg) (number : Option ℕ) (before : Option Sort) (ts : List Sort) → BeforeIs sorts number before → ArgsOf more before ts → (done : List Sort) (ps : List Piece) → AreMade (WaitsIn sorts r) done ps → (s : State) → Held sorts s →
         After (λ qs u. Held sorts u × AreMade (WaitsIn sorts r) (done ++ ts) qs) (m.eval_args more r number ps s)
@@ -378,7 +459,7 @@ module _ (bs : List Behavior) (sigs : Signatures) (g : Signature) (from : ℕ) (
 
     abbrev pub DelaysOf : List Property → Type 0
     DelaysOf [] = Unit {0}
-    DelaysOf (property.Delay at time ∷ more) = ((k : Kind) × J time env k) × DelaysOf more
+    DelaysOf (property.Delay at time ∷ more) = ((k : Kind) × Judgement bs time env k) × DelaysOf more
     DelaysOf (property.WaitFor at names ∷ more) = DelaysOf more
 
     delays_held : (sorts : Sorts) (ps : List Property) → DelaysOf ps → (last : Option Value) (s : State) → Held sorts s → After (λ y u. Held sorts u) (m.eval_delay ps last r s)
@@ -389,20 +470,22 @@ module _ (bs : List Behavior) (sigs : Signatures) (g : Signature) (from : ℕ) (
     abbrev pub AimOf : Aim → Type 0
     AimOf aim.Own = Unit {0}
     AimOf (aim.Output at) = Unit {0}
-    AimOf (aim.Actor e) = (k : Kind) × J e env k
+    AimOf (aim.Actor e) = (k : Kind) × Judgement bs e env k
 
-    aimed_held : (sorts : Sorts) (y : Aim) → AimOf y → (s : State) → Held sorts s → After (λ o u. Held sorts u) (m.eval_aim y r s)
-    aimed_held sorts aim.Own f s h = h
-    aimed_held sorts (aim.Output at) f s h = h
-    aimed_held sorts (aim.Actor e) f s h = then_after (λ y u. Held sorts u × Has f.0 y) (λ o u. Held sorts u) (eval e r s) (λ y. pure (Some y)) (eval_held sorts e f.0 f.1 s h) (λ y u q. q.0)
+    -- the state stays typed, and what is evaluated means such a target
+    abbrev Aimed : Sorts → Aim → Option Value → State → Type 0
+    Aimed sorts y o u = Held sorts u × TargetIfAny y (m.target_of o)
+
+    aimed_held : (sorts : Sorts) (y : Aim) → AimOf y → (s : State) → Held sorts s → After (Aimed sorts y) (m.eval_aim y r s)
+    aimed_held sorts aim.Own f s h = (h, own_target (out-Value (Ref r.me)))
+    aimed_held sorts (aim.Output at) f s h = (h, tt)
+    aimed_held sorts (aim.Actor e) f s h = then_after (λ y u. Held sorts u × Has f.0 y) (Aimed sorts (aim.Actor e)) (eval e r s) (λ y. pure (Some y)) (eval_held sorts e f.0 f.1 s h) (λ y u q. (q.0, actor_target e (out-Value y)))
 
     -- ---- the message takes its number, whose reply has this type
 
     -- the state is typed by more addresses
-    pub record Reach (sorts : Sorts) (t : State) : Type 0 where
-      pub later : Sorts
-      pub grows : (q : Reply) (u : Sort) → sorts q ≡ Some u → later q ≡ Some u
-      pub held : Held later t
+    abbrev pub Reach : Sorts → State → Type 0
+    Reach sorts t = Within r env tokens item sorts t
 
     pub record Numbered (sorts : Sorts) (result : Sort) (slot : Option Sort) (n : ℕ) (t : State) : Type 0 where
       pub reach : Reach sorts t
@@ -448,7 +531,7 @@ module _ (bs : List Behavior) (sigs : Signatures) (g : Signature) (from : ℕ) (
 
     -- ---- to whom the reply is owed
 
-    abbrev EndOf : End → Sort → Type 0
+    abbrev pub EndOf : End → Sort → Type 0
     EndOf end.Nobody result = Unit {0}
     EndOf end.Token result = Unit {0}
     EndOf end.Place result = item ≡ Some result
@@ -476,40 +559,52 @@ module _ (bs : List Behavior) (sigs : Signatures) (g : Signature) (from : ℕ) (
 
     -- ---- the stage
 
-    -- what typing gives of a message to an actor
+    -- the handler that a message goes to has this signature: one of an actor of the program, or one that prints
+    abbrev pub AddressOf : Aim → Signature → m.HandlerId → Type 0
+    AddressOf aim.Own w id = signature_at sigs id.behavior id.handler ≡ Some w
+    AddressOf (aim.Actor e) w id = signature_at sigs id.behavior id.handler ≡ Some w
+    AddressOf (aim.Output at) w id = (id.behavior ≡ OUTPUT) × ((id.handler ≤ PRINTLN) × (PrintedSorts w.params × (w.result ≡ void_sort)))
+
+    -- what typing gives of a message
     pub record SendOf (y : Send) (before : Option Sort) (w : Signature) : Type 0 where
       pub aim : AimOf y.aim
       pub args : ArgsOf y.args before w.params
       pub delays : DelaysOf y.properties
-      pub address : signature_at sigs (m.aim_handler_id y.aim y.handler.text (target_behavior y.aim env) r).behavior (m.aim_handler_id y.aim y.handler.text (target_behavior y.aim env) r).handler ≡ Some w
+      pub address : AddressOf y.aim w (m.aim_handler_id y.aim y.handler.text (target_behavior y.aim env) r)
 
     address_is : (y : Send) (s : State) → env ≡ scope_of r s → m.handler_id_of y r s ≡ m.aim_handler_id y.aim y.handler.text (target_behavior y.aim env) r
     unfolding m.handler_id_of
     address_is y s e = ap (λ z. m.aim_handler_id y.aim y.handler.text (target_behavior y.aim z) r) (sym e)
 
-    made_to : (sorts : Sorts) (to : Target) (y : Message) → CallMade sorts r y → MadeTo sorts r to y
-    made_to sorts (target.Actor n) y h = h
-    made_to sorts target.Output y h = tt
+    made_to : (sorts : Sorts) (a : Aim) (to : Target) (w : Signature) (id : m.HandlerId) (y : Message) → TargetFor a to → AddressOf a w id → id ≡ record { behavior = y.behavior; handler = y.handler } → AreMade (WaitsIn sorts r) w.params y.args → OwesIn sorts r y.reply w.result → MadeTo sorts r to y
+    made_to sorts aim.Own (target.Actor n) w id y t f same ps q = record { signature = w; is = subst (λ (a : m.HandlerId). signature_at sigs a.behavior a.handler ≡ Some w) same f; args = ps; reply = q }
+    made_to sorts aim.Own target.Output w id y t f same ps q = absurd t
+    made_to sorts (aim.Actor e) (target.Actor n) w id y t f same ps q = record { signature = w; is = subst (λ (a : m.HandlerId). signature_at sigs a.behavior a.handler ≡ Some w) same f; args = ps; reply = q }
+    made_to sorts (aim.Actor e) target.Output w id y t f same ps q = absurd t
+    made_to sorts (aim.Output at) (target.Actor n) w id y t f same ps q = absurd t
+    made_to sorts (aim.Output at) target.Output w id y t f same ps q = record {
+      behavior = subst (λ (a : m.HandlerId). a.behavior ≡ OUTPUT) same f.0;
+      handler = subst (λ (a : m.HandlerId). a.handler ≤ PRINTLN) same f.1.0;
+      args = prints_of (WaitsIn sorts r) w.params y.args f.1.1.0 ps;
+      reply = subst (OwesIn sorts r y.reply) f.1.1.1 q;
+    }
 
     added : (sorts : Sorts) (y : Message) (s : State) → Held sorts s → MessageMade sorts r y → Held sorts (record s { messages = s.messages ++ y ∷ [] })
     added sorts y s h o = record { scope = h.scope; sits = record { locals = h.sits.locals; fields = h.sits.fields; actors = h.sits.actors; creations = h.sits.creations }; low = h.low; new = h.new; named = h.named; places = h.places; messages = each_append (MessageMade sorts r) s.messages (y ∷ []) h.messages (o, tt); joins = h.joins }
 
-    addressed_held : (sorts : Sorts) (y : Send) (w : Signature) (number : Option ℕ) (before : Option Sort) → SendOf y before w → (last : End) → EndOf last w.result → (to : Option Target) (ps : List Piece) → AreMade (WaitsIn sorts r) w.params ps → (delay : Option ℕ) (s : State) → Held sorts s → After (Numbered sorts w.result None) (m.send_if_valid y r number last to ps delay s)
-    addressed_held sorts y w number before f last e None ps l delay s h = tt
-    addressed_held sorts y w number before f last e (Some to) ps l None s h = tt
-    addressed_held sorts y w number before f last e (Some to) ps l (Some delay) s h =
+    addressed_held : (sorts : Sorts) (y : Send) (w : Signature) (number : Option ℕ) (before : Option Sort) → SendOf y before w → (last : End) → EndOf last w.result → (to : Option Target) → TargetIfAny y.aim to → (ps : List Piece) → AreMade (WaitsIn sorts r) w.params ps → (delay : Option ℕ) (s : State) → Held sorts s → After (Numbered sorts w.result None) (m.send_if_valid y r number last to ps delay s)
+    addressed_held sorts y w number before f last e None goes ps l delay s h = tt
+    addressed_held sorts y w number before f last e (Some to) goes ps l None s h = tt
+    addressed_held sorts y w number before f last e (Some to) goes ps l (Some delay) s h =
         then_after (Numbered sorts w.result None) (Numbered sorts w.result None) (m.take_message_serial s) (λ n. m.reply_of_stage last r n >>= (λ q. m.send_message y r number to ps delay n q)) (next_held sorts w.result None (length s.messages) s h) (λ n u z.
         then_after (λ q t. Held z.reach.later t × OwesIn z.reach.later r q w.result) (Numbered sorts w.result None) (m.reply_of_stage last r n u) (λ q. m.send_message y r number to ps delay n q) (owed_held z.reach.later w.result last e n z.typed u z.reach.held) (λ q t p.
         record {
           reach = record {
             later = z.reach.later;
             grows = z.reach.grows;
-            held = added z.reach.later (m.message_with y r number to ps delay n q t) t p.0 (made_to z.reach.later to (m.message_with y r number to ps delay n q t) (record {
-              signature = w;
-              is = ap (λ (a : m.HandlerId). signature_at sigs a.behavior a.handler) (address_is y t p.0.scope) ∙ f.address;
-              args = made_more (WaitsIn sorts r) (WaitsIn z.reach.later r) (λ k v e. z.reach.grows (Tok r.me k) v e) w.params ps l;
-              reply = p.1;
-            }));
+            held = added z.reach.later (m.message_with y r number to ps delay n q t) t p.0
+                (made_to z.reach.later y.aim to w (m.aim_handler_id y.aim y.handler.text (target_behavior y.aim env) r) (m.message_with y r number to ps delay n q t) goes f.address (sym (address_is y t p.0.scope))
+                (made_more (WaitsIn sorts r) (WaitsIn z.reach.later r) (λ k v e. z.reach.grows (Tok r.me k) v e) w.params ps l) p.1);
           };
           typed = z.typed;
           slots = z.slots;
@@ -519,19 +614,19 @@ module _ (bs : List Behavior) (sigs : Signatures) (g : Signature) (from : ℕ) (
     pub message_held : (sorts : Sorts) (y : Send) (w : Signature) (number : Option ℕ) (before : Option Sort) → BeforeIs sorts number before → SendOf y before w → (last : End) → EndOf last w.result → (s : State) → Held sorts s → After (Numbered sorts w.result None) (m.message y r number last s)
     unfolding m.message
     message_held sorts y w number before b f last e s h =
-        then_after (λ o u. Held sorts u) (Numbered sorts w.result None) (m.eval_aim y.aim r s) _ (aimed_held sorts y.aim f.aim s h) (λ to u h1.
-        then_after (λ ps t. Held sorts t × AreMade (WaitsIn sorts r) w.params ps) (Numbered sorts w.result None) (m.eval_args y.args r number [] u) _ (args_made sorts y.args number before w.params b f.args [] [] tt u h1) (λ ps t q.
+        then_after (Aimed sorts y.aim) (Numbered sorts w.result None) (m.eval_aim y.aim r s) _ (aimed_held sorts y.aim f.aim s h) (λ to u h1.
+        then_after (λ ps t. Held sorts t × AreMade (WaitsIn sorts r) w.params ps) (Numbered sorts w.result None) (m.eval_args y.args r number [] u) _ (args_made sorts y.args number before w.params b f.args [] [] tt u h1.0) (λ ps t q.
         then_after (λ d z. Held sorts z) (Numbered sorts w.result None) (m.eval_delay y.properties None r t) _ (delays_held sorts y.properties f.delays None t q.0) (λ d z h3.
-        addressed_held sorts y w number before f last e (m.target_of to) ps q.1 (m.delay_of d) z h3)))
+        addressed_held sorts y w number before f last e (m.target_of to) h1.1 ps q.1 (m.delay_of d) z h3)))
 
     -- ---- a join stage
 
     inside_made : (sorts : Sorts) (n : ℕ) (before : Option ℕ) (to : Target) (y : Message) → MadeTo sorts r to y → MadeTo sorts (t.within_join n before r) to y
-    inside_made sorts n before target.Output y h = tt
+    inside_made sorts n before target.Output y h = record { behavior = h.behavior; handler = h.handler; args = h.args; reply = h.reply }
     inside_made sorts n before (target.Actor k) y h = record { signature = h.signature; is = h.is; args = h.args; reply = h.reply }
 
     outside_made : (sorts : Sorts) (n : ℕ) (before : Option ℕ) (to : Target) (y : Message) → MadeTo sorts (t.within_join n before r) to y → MadeTo sorts r to y
-    outside_made sorts n before target.Output y h = tt
+    outside_made sorts n before target.Output y h = record { behavior = h.behavior; handler = h.handler; args = h.args; reply = h.reply }
     outside_made sorts n before (target.Actor k) y h = record { signature = h.signature; is = h.is; args = h.args; reply = h.reply }
 
     abbrev pub InBlock : ℕ → Option ℕ → Sort → Sorts → State → Type 0
@@ -632,10 +727,10 @@ module _ (bs : List Behavior) (sigs : Signatures) (g : Signature) (from : ℕ) (
     abbrev pub StageHeld : t.StageDenotation → Option Sort → Sort → Type 0
     StageHeld x before result = (sorts : Sorts) (number : Option ℕ) (last : End) (s : State) → BeforeIs sorts number before → EndOf last result → Held sorts s → After (Staged sorts result) (x r number last s)
 
-    message_stage : (y : Send) (w : Signature) (before : Option Sort) → SendOf y before w → StageHeld (m.message y) before w.result
+    pub message_stage : (y : Send) (w : Signature) (before : Option Sort) → SendOf y before w → StageHeld (m.message y) before w.result
     message_stage y w before f sorts number last s b e h = after_more (Numbered sorts w.result None) (Staged sorts w.result) (m.message y r number last s) (λ n u z. record { reach = z.reach; typed = z.typed }) (message_held sorts y w number before b f last e s h)
 
-    join_stage : (block : t.StmtDenotation) (void : State → Bool) (slot result : Sort) → BlockHeld block slot → ((sorts : Sorts) (s : State) → Held sorts s → join_sort (void s) slot ≡ result) → (before : Option Sort) → StageHeld (t.exec_join_stage void block) before result
+    pub join_stage : (block : t.StmtDenotation) (void : State → Bool) (slot result : Sort) → BlockHeld block slot → ((sorts : Sorts) (s : State) → Held sorts s → join_sort (void s) slot ≡ result) → (before : Option Sort) → StageHeld (t.exec_join_stage void block) before result
     join_stage block void slot result f same before sorts number last s b e h = after_more (Numbered sorts result (Some slot)) (Staged sorts result) (t.exec_join_stage void block r number last s) (λ n u z. record { reach = z.reach; typed = z.typed }) (join_held sorts block void slot result f (same sorts) number last e s h)
 
     -- each stage behind the one before it
@@ -661,16 +756,11 @@ module _ (bs : List Behavior) (sigs : Signatures) (g : Signature) (from : ℕ) (
 
     -- ---- a chain as a statement
 
-    abbrev FlowOk : Flow → Type 0
-    FlowOk Next = Unit {0}
-    FlowOk (Returned y) = Belongs g.result y
-    FlowOk Passed = Unit {0}
-
     abbrev pub RunHeld : t.StmtDenotation → Type 0
-    RunHeld x = (sorts : Sorts) (s : State) → Held sorts s → After (λ f u. Reach sorts u × FlowOk f) (x r s)
+    RunHeld x = (sorts : Sorts) (s : State) → Held sorts s → After (λ f u. Reach sorts u × FlowOk g.result f) (x r s)
 
-    chain_run : (x : t.StageDenotation) (more : List t.StageDenotation) (result : Sort) → ChainOf x more None result → (last : End) → EndOf last result → (flow : Flow) → FlowOk flow → (sorts : Sorts) (s : State) → Held sorts s → After (λ f u. Reach sorts u × FlowOk f) ((t.chain (x ∷ more) r None last >> pure flow) s)
-    chain_run x more result f last e flow ok sorts s h = then_after (Chained sorts result) (λ y u. Reach sorts u × FlowOk y) (t.chain (x ∷ more) r None last s) (λ o. pure flow) (chain_held x more None result f sorts None last e s (λ v i. absurd cc) h) (λ o u q. (q.staged.reach, ok))
+    chain_run : (x : t.StageDenotation) (more : List t.StageDenotation) (result : Sort) → ChainOf x more None result → (last : End) → EndOf last result → (flow : Flow) → FlowOk g.result flow → (sorts : Sorts) (s : State) → Held sorts s → After (λ f u. Reach sorts u × FlowOk g.result f) ((t.chain (x ∷ more) r None last >> pure flow) s)
+    chain_run x more result f last e flow ok sorts s h = then_after (Chained sorts result) (λ y u. Reach sorts u × FlowOk g.result y) (t.chain (x ∷ more) r None last s) (λ o. pure flow) (chain_held x more None result f sorts None last e s (λ v i. absurd cc) h) (λ o u q. (q.staged.reach, ok))
 
     -- a plain chain, in a join one of the join's type; and one before `@ currentContinuation`, of the handler's
     pub plain_chain : (x : t.StageDenotation) (more : List t.StageDenotation) (result : Sort) → ChainOf x more None result → EndOf (t.plain_end r.within) result → RunHeld (t.exec_chain_stmt None (x ∷ more))
@@ -678,4 +768,4 @@ module _ (bs : List Behavior) (sigs : Signatures) (g : Signature) (from : ℕ) (
 
     pub passed_chain : (at : ℕ) (x : t.StageDenotation) (more : List t.StageDenotation) (result : Sort) → ChainOf x more None result → result ≡ g.result → r.within ≡ [] → RunHeld (t.exec_chain_stmt (Some at) (x ∷ more))
     passed_chain at x more result f same out sorts s h =
-        subst (λ is. After (λ y u. Reach sorts u × FlowOk y) (t.exec_passed_chain is (x ∷ more) r s)) (sym out) (chain_run x more result f end.Caller same Passed tt sorts s h)
+        subst (λ is. After (λ y u. Reach sorts u × FlowOk g.result y) (t.exec_passed_chain is (x ∷ more) r s)) (sym out) (chain_run x more result f end.Caller same Passed tt sorts s h)

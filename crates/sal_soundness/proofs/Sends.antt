@@ -1,6 +1,6 @@
 -- What typing gives of a message to an actor.
-use Rattle.std.proofs.Common.{◌≡◌, ◌⊎◌, inl, inr, ℕ, zero, suc, ◌+◌, Bool, true, false, cond, not, ◌&&◌, if◌then◌else◌, List, [], ◌∷◌, length, map, Option, Some, None, option_map, refl, sym, ap, subst, ◌∙◌}
-use Rattle.std.specs.Prelude.{slice_get, nat_le, nat_lt}
+use Rattle.std.proofs.Common.{◌≡◌, ◌⊎◌, inl, inr, ℕ, zero, suc, ◌+◌, Bool, true, false, cond, not, ◌&&◌, ◌||◌, if◌then◌else◌, ◌≤◌, List, [], ◌∷◌, length, map, Option, Some, None, option_map, refl, sym, ap, subst, ◌∙◌, arith}
+use Rattle.std.specs.Prelude.{slice_get, nat_le, nat_lt, codes}
 use Rattle.std.specs.List.{find, position, position_or_len, list_all}
 use Rattle.std.specs.Str.{bytes_eq}
 use Rattle.std.proofs.lemmas.Bool.{and_parts}
@@ -29,7 +29,8 @@ use Rattle.sal_sorts.specs.declared.sort.Base.{Base}
 use Rattle.sal_sorts.specs.declared.sort.Base.TheVariants.{Int, Boolean, Str, Actor, Void, Null}
 use Rattle.sal_sorts.specs.declared.sort.Sort.{Sort}
 use Rattle.sal_sorts.specs.declared.variable.Variable.{Variable}
-use Rattle.sal_sorts.specs.Sorts.{plain}
+use Rattle.sal_sorts.specs.Sorts.{plain, is_text_sort, is_int_sort, is_boolean_sort, is_printable_sort}
+use Rattle.sal_mail.specs.declared.constants.TheConstants.{PRINT, PRINTLN}
 use Rattle.sal_sorts.specs.Environments.{Environment, local_with_name, variable_with_name, or_else, field_in_scope, are_assignable}
 use Rattle.sal_sorts.specs.Expressions.{expr_verdict}
 use Rattle.sal_types.specs.declared.signature.Signature.{Signature}
@@ -39,18 +40,18 @@ use Rattle.sal_typing.specs.Known.{Each, IsReplySort, IsValueSort, IsSortInScope
 use Rattle.sal_typing.specs.Parts.{Pairwise, HasSort, ExprParts, IsTokenOf, ArgParts, PropertyParts, IsCall, AimParts, MessageParts}
 use Rattle.sal_typing.specs.Fitting.{Fits}
 use Rattle.sal_typing.proofs.Expressions.{have_sorts}
-use Rattle.sal_typing.proofs.ExpressionParts.{have_parts}
+use Rattle.sal_typing.proofs.ExpressionParts.{same_sort_is, have_parts}
 use Rattle.sal_typing.proofs.Finding.{stands_first, position_of, no_position, each_found}
 use Rattle.sal_typing.proofs.Fitting.{arguments_fit}
 use Rattle.sal_handler.specs.Messages.{name_alone, aim_handler_id, actor_handler_id}
 use Rattle.sal_handler.specs.Scopes.{Context}
-use Rattle.sal_fitting.specs.Signatures.{signature_at}
+use Rattle.sal_fitting.specs.Signatures.{signature_at, void_sort}
 use Rattle.sal_fitting.specs.Programs.{signatures}
-use Rattle.sal_preservation.proofs.Judged.{Kind, Assignable, actor}
-use Rattle.sal_preservation.proofs.Reaching.{NoNull, actor_kind, null_kind, reaches}
-use Rattle.sal_preservation.proofs.Judging as judging
+use Rattle.sal_preservation.proofs.Judged.{Kind, Assignable, actor, int, boolean, text}
+use Rattle.sal_preservation.proofs.Reaching.{NoNull, actor_kind, null_kind, int_kind, boolean_kind, text_kind, reaches}
+use Rattle.sal_soundness.proofs.Anywhere.{Judgement, Can}
 use Rattle.sal_soundness.proofs.Sending as sending
-use Rattle.sal_soundness.proofs.Sending.{tok_in, tok_at, tokens_of}
+use Rattle.sal_soundness.proofs.Sending.{PrintedSort, PrintedSorts, tok_in, tok_at, tokens_of}
 use Rattle.sal_soundness.proofs.Signing.{Numbers, call_addressed}
 
 -- ---- lists
@@ -99,7 +100,7 @@ base_no_null bs (Actor name) d t e = refl
 base_no_null bs Void d t e = refl
 base_no_null bs Null d t e = absurd cc
 
-number_no_null : (bs : List Behavior) (s : Sort) (t : MeantSort) → number_sort s bs ≡ Some t → NoNull s
+pub number_no_null : (bs : List Behavior) (s : Sort) (t : MeantSort) → number_sort s bs ≡ Some t → NoNull s
 unfolding number_sort
 number_no_null bs s t e = base_no_null bs s.base s.dims t e
 
@@ -107,35 +108,64 @@ reply_no_null : (bs : List Behavior) (s : Sort) → IsReplySort s bs → NoNull 
 reply_no_null bs s (inl e) = subst NoNull (sym e) refl
 reply_no_null bs s (inr v) = number_no_null bs s v.number v.means
 
+or_is : (a b c : Bool) → (a || b || c) ≡ true → (a ≡ true) ⊎ ((b ≡ true) ⊎ (c ≡ true))
+or_is true b c e = inl refl
+or_is false true c e = inr (inl refl)
+or_is false false c e = inr (inr e)
+
+-- what is printed
+printed : (bs : List Behavior) (s : Sort) → is_printable_sort s ≡ true → (t : MeantSort) × ((number_sort s bs ≡ Some t) × PrintedSort t)
+unfolding is_printable_sort is_text_sort is_int_sort is_boolean_sort
+printed bs s h = by (or_is (is_text_sort s) (is_int_sort s) (is_boolean_sort s) h)
+  where
+    by : (is_text_sort s ≡ true) ⊎ ((is_int_sort s ≡ true) ⊎ (is_boolean_sort s ≡ true)) → (t : MeantSort) × ((number_sort s bs ≡ Some t) × PrintedSort t)
+    by (inl e) = (text, (ap (λ z. number_sort z bs) (same_sort_is s (plain Str) e) ∙ text_kind bs, inr (inr refl)))
+    by (inr (inl e)) = (int, (ap (λ z. number_sort z bs) (same_sort_is s (plain Int) e) ∙ int_kind bs, inl refl))
+    by (inr (inr e)) = (boolean, (ap (λ z. number_sort z bs) (same_sort_is s (plain Boolean) e) ∙ boolean_kind bs, inr (inl refl)))
+
+pub void_kind : (bs : List Behavior) → number_sort (plain Void) bs ≡ Some void_sort
+unfolding number_sort
+void_kind bs = refl
+
+print_low : (b : Bool) → (if b then PRINTLN else PRINT) ≤ PRINTLN
+print_low true = omega arith
+print_low false = omega arith
+
 null_not : {A : Type 0} (s : Sort) → s ≡ plain Null → NoNull s → A
 null_not s e h = let f : NoNull (plain Null) = subst NoNull e h in absurd cc
 
+-- the type of a token
+abbrev pub token_kind : List Behavior → Variable → Option MeantSort
+token_kind bs v = if v.is_token then number_sort v.sort bs else None
+
+-- the types of the tokens in scope
+abbrev pub tokens : Environment → List (Option MeantSort)
+tokens env = map (token_kind env.behaviors) env.scope
+
+-- the type of the stage before
+abbrev pub before_kind : List Behavior → Option Sort → Option MeantSort
+before_kind bs None = None
+before_kind bs (Some s) = number_sort s bs
+
 module _ (p : Program) (typed : IsTyped p) (env : Environment) (mine : ℕ) (known : IsKnown env mine) (same : env.behaviors ≡ p.behaviors) where
-  abbrev pub token_kind : Variable → Option MeantSort
-  token_kind v = if v.is_token then number_sort v.sort env.behaviors else None
-
-  -- the types of the tokens in scope
-  abbrev pub tokens : List (Option MeantSort)
-  tokens = map token_kind env.scope
-
-  abbrev here : Scope
+  abbrev pub here : Scope
   here = scope_of env mine
 
   abbrev pub tok_of : Option Variable → Option MeantSort
   tok_of None = None
-  tok_of (Some v) = token_kind v
+  tok_of (Some v) = (token_kind env.behaviors) v
 
-  here_tokens : (n : List ℕ) → tokens_of here tokens n ≡ tok_of (local_with_name n env)
+  here_tokens : (n : List ℕ) → tokens_of here (tokens env) n ≡ tok_of (local_with_name n env)
   unfolding local_with_name
-  here_tokens n = ap (λ o. tok_at o tokens) (position_in_map (number_variable env.behaviors) (λ (v : ScopeVariable). bytes_eq v.name n) env.scope) ∙ by (find (λ (v : Variable). bytes_eq v.name n) env.scope) refl
+  here_tokens n = ap (λ o. tok_at o (tokens env)) (position_in_map (number_variable env.behaviors) (λ (v : ScopeVariable). bytes_eq v.name n) env.scope) ∙ by (find (λ (v : Variable). bytes_eq v.name n) env.scope) refl
     where
-      by : (o : Option Variable) → find (λ (v : Variable). bytes_eq v.name n) env.scope ≡ o → tok_at (position (λ (v : Variable). bytes_eq v.name n) env.scope) tokens ≡ tok_of (find (λ (v : Variable). bytes_eq v.name n) env.scope)
-      by None e = ap (λ o. tok_at o tokens) (no_position (λ (v : Variable). bytes_eq v.name n) env.scope e) ∙ ap tok_of (sym e)
+      by : (o : Option Variable) → find (λ (v : Variable). bytes_eq v.name n) env.scope ≡ o → tok_at (position (λ (v : Variable). bytes_eq v.name n) env.scope) (tokens env) ≡ tok_of (find (λ (v : Variable). bytes_eq v.name n) env.scope)
+      by None e = ap (λ o. tok_at o (tokens env)) (no_position (λ (v : Variable). bytes_eq v.name n) env.scope e) ∙ ap tok_of (sym e)
       by (Some v) e =
-          ap (λ o. tok_at o tokens) (position_of (λ (v : Variable). bytes_eq v.name n) env.scope v e)
-          ∙ (ap tok_in (get_map token_kind env.scope (position_or_len (λ (v : Variable). bytes_eq v.name n) env.scope) ∙ ap (option_map token_kind) (stands_first (λ (v : Variable). bytes_eq v.name n) env.scope v e).there) ∙ ap tok_of (sym e))
+          ap (λ o. tok_at o (tokens env)) (position_of (λ (v : Variable). bytes_eq v.name n) env.scope v e)
+          ∙ (ap tok_in (get_map (token_kind env.behaviors) env.scope (position_or_len (λ (v : Variable). bytes_eq v.name n) env.scope) ∙ ap (option_map (token_kind env.behaviors)) (stands_first (λ (v : Variable). bytes_eq v.name n) env.scope v e).there) ∙ ap tok_of (sym e))
 
-  no_token : (e : Expr) (s : Sort) → HasSort env e s → (id : Ident) → name_alone (out-Expr e) ≡ Some id → tokens_of here tokens id.text ≡ None
+  no_token : (e : Expr) (s : Sort) → HasSort env e s → (id : Ident) → name_alone (out-Expr e) ≡ Some id → tokens_of here (tokens env) id.text ≡ None
   unfolding variable_with_name
   no_token e s h id is =
       let q : ExprParts (Expr-F.Name id) env false s = subst (λ z. ExprParts z env false s) (name_is (out-Expr e) id is) (have_parts env e false s h) in
@@ -145,30 +175,29 @@ module _ (p : Program) (typed : IsTyped p) (env : Environment) (mine : ℕ) (kno
       by None v e f = refl
       by (Some w) v e f = ap (λ b. if b then number_sort w.sort env.behaviors else None) (ap (λ (x : Variable). x.is_token) (some_is e) ∙ f)
 
-  abbrev pub before_kind : Option Sort → Option MeantSort
-  before_kind None = None
-  before_kind (Some s) = number_sort s env.behaviors
-
   module _ (g : Signature) (from : ℕ) (item : Option MeantSort) (r : Context)
-      (can : sending.Can env.behaviors (signatures p) g from (judging.Judgement env mine known) (judging.SuffixJudgement env mine known) (judging.makes env mine known) (judging.judges env mine known) r) where
+      (can : Can p.behaviors r) where
     abbrev ArgOf : Arg → Option MeantSort → MeantSort → Type 0
-    ArgOf = sending.ArgOf env.behaviors (signatures p) g from (judging.Judgement env mine known) (judging.SuffixJudgement env mine known) (judging.makes env mine known) (judging.judges env mine known) r can here tokens item
+    ArgOf = sending.ArgOf p.behaviors (signatures p) g from r can here (tokens env) item
 
     abbrev ArgsOf : List Arg → Option MeantSort → List MeantSort → Type 0
-    ArgsOf = sending.ArgsOf env.behaviors (signatures p) g from (judging.Judgement env mine known) (judging.SuffixJudgement env mine known) (judging.makes env mine known) (judging.judges env mine known) r can here tokens item
+    ArgsOf = sending.ArgsOf p.behaviors (signatures p) g from r can here (tokens env) item
 
-    value_fits : (e : Expr) (s to : Sort) (t : MeantSort) → expr_is_regular e ≡ true → HasSort env e s → Fits env s to → number_sort to env.behaviors ≡ Some t → (k : Kind) × (judging.Judgement env mine known e here k × Assignable k t)
+    pub judged : (e : Expr) (s : Sort) → expr_is_regular e ≡ true → HasSort env e s → Judgement p.behaviors e here (number_sort s env.behaviors)
+    judged e s regular h = record { env = env; mine = mine; known = known; same = same; judged = record { minus = false; sort = s; scope = refl; regular = regular; good = h; kind = refl } }
+
+    pub value_fits : (e : Expr) (s to : Sort) (t : MeantSort) → expr_is_regular e ≡ true → HasSort env e s → Fits env s to → number_sort to env.behaviors ≡ Some t → (k : Kind) × (Judgement p.behaviors e here k × Assignable k t)
     value_fits e s to t regular h f is =
         let q = reaches env.behaviors env refl s to (have_sorts env mine known e false s h).1 f (number_no_null env.behaviors to t is) in
-        (number_sort s env.behaviors, (record { minus = false; sort = s; scope = refl; regular = regular; good = h; kind = refl }, subst (Assignable (number_sort s env.behaviors)) (some_is (sym q.is ∙ is)) q.fits))
+        (number_sort s env.behaviors, (judged e s regular h, subst (Assignable (number_sort s env.behaviors)) (some_is (sym q.is ∙ is)) q.fits))
 
     token_fits : (s to : Sort) (t : MeantSort) → NoNull s → Fits env s to → number_sort to env.behaviors ≡ Some t → number_sort s env.behaviors ≡ Some t
     token_fits s to t nn (inl f) is = null_not s f.0 nn
     token_fits s to t nn (inr e) is = ap (λ z. number_sort z env.behaviors) e ∙ is
 
-    arg_fits : (before : Option Sort) → ((u : Sort) → before ≡ Some u → IsReplySort u env.behaviors) → (a : Arg) (s to : Sort) (t : MeantSort) → arg_is_regular a ≡ true → ArgParts env before a s → Fits env s to → number_sort to env.behaviors ≡ Some t → ArgOf a (before_kind before) t
+    arg_fits : (before : Option Sort) → ((u : Sort) → before ≡ Some u → IsReplySort u env.behaviors) → (a : Arg) (s to : Sort) (t : MeantSort) → arg_is_regular a ≡ true → ArgParts env before a s → Fits env s to → number_sort to env.behaviors ≡ Some t → ArgOf a (before_kind env.behaviors before) t
     unfolding local_with_name
-    arg_fits before reply (arg.Token at) s to t regular h f is = ap before_kind h ∙ token_fits s to t (reply_no_null env.behaviors s (reply s h)) f is
+    arg_fits before reply (arg.Token at) s to t regular h f is = ap (before_kind env.behaviors) h ∙ token_fits s to t (reply_no_null env.behaviors s (reply s h)) f is
     arg_fits before reply (arg.Expr e) s to t regular (inr h) f is = inr ((λ id alone. no_token e s h id alone), value_fits e s to t regular h f is)
     arg_fits before reply (arg.Expr e) s to t regular (inl h) f is = inl (h.0, (ap name_alone h.2, here_tokens h.0.text ∙ local h.1 h.3 h.4 h.5))
       where
@@ -179,7 +208,7 @@ module _ (p : Program) (typed : IsTyped p) (env : Environment) (mine : ℕ) (kno
             let nn : NoNull s = subst NoNull sort (reply_no_null env.behaviors v.sort reply) in
             ap tok_of found ∙ ap (λ b. if b then number_sort v.sort env.behaviors else None) token ∙ ap (λ z. number_sort z env.behaviors) sort ∙ token_fits s to t nn f is
 
-    args_fit : (before : Option Sort) → ((u : Sort) → before ≡ Some u → IsReplySort u env.behaviors) → (list : List Arg) (ss tos : List Sort) (ts : List MeantSort) → list_all arg_is_regular list ≡ true → Pairwise (ArgParts env before) list ss → Pairwise (Fits env) ss tos → Pairwise (λ s t. number_sort s env.behaviors ≡ Some t) tos ts → ArgsOf list (before_kind before) ts
+    args_fit : (before : Option Sort) → ((u : Sort) → before ≡ Some u → IsReplySort u env.behaviors) → (list : List Arg) (ss tos : List Sort) (ts : List MeantSort) → list_all arg_is_regular list ≡ true → Pairwise (ArgParts env before) list ss → Pairwise (Fits env) ss tos → Pairwise (λ s t. number_sort s env.behaviors ≡ Some t) tos ts → ArgsOf list (before_kind env.behaviors before) ts
     args_fit before reply [] [] [] [] regular h f is = tt
     args_fit before reply [] [] [] (t ∷ ts) regular h f is = absurd is
     args_fit before reply [] [] (to ∷ tos) ts regular h f is = absurd f
@@ -192,13 +221,13 @@ module _ (p : Program) (typed : IsTyped p) (env : Environment) (mine : ℕ) (kno
         (arg_fits before reply a s to t q.0 h.0 f.0 is.0, args_fit before reply list ss tos ts q.1 h.1 f.1 is.1)
 
     abbrev DelaysOf : List Property → Type 0
-    DelaysOf = sending.DelaysOf env.behaviors (signatures p) g from (judging.Judgement env mine known) (judging.SuffixJudgement env mine known) (judging.makes env mine known) (judging.judges env mine known) r can here tokens item
+    DelaysOf = sending.DelaysOf p.behaviors (signatures p) g from r can here (tokens env) item
 
     abbrev AimOf : Aim → Type 0
-    AimOf = sending.AimOf env.behaviors (signatures p) g from (judging.Judgement env mine known) (judging.SuffixJudgement env mine known) (judging.makes env mine known) (judging.judges env mine known) r can here tokens item
+    AimOf = sending.AimOf p.behaviors (signatures p) g from r can here (tokens env) item
 
-    has_kind : (e : Expr) (s : Sort) → expr_is_regular e ≡ true → HasSort env e s → (k : Kind) × judging.Judgement env mine known e here k
-    has_kind e s regular h = (number_sort s env.behaviors, record { minus = false; sort = s; scope = refl; regular = regular; good = h; kind = refl })
+    pub has_kind : (e : Expr) (s : Sort) → expr_is_regular e ≡ true → HasSort env e s → (k : Kind) × Judgement p.behaviors e here k
+    has_kind e s regular h = (number_sort s env.behaviors, judged e s regular h)
 
     delays_fit : (ps : List Property) → list_all property_is_regular ps ≡ true → Each (PropertyParts env) ps → DelaysOf ps
     delays_fit [] regular h = tt
@@ -208,16 +237,17 @@ module _ (p : Program) (typed : IsTyped p) (env : Environment) (mine : ℕ) (kno
     record IsAimed (a : Aim) (name : List ℕ) (args : List Sort) (reply : Sort) : Type 0 where
       signature : Signature
       aim : AimOf a
-      address : signature_at (signatures p) (aim_handler_id a name (target_behavior a here) r).behavior (aim_handler_id a name (target_behavior a here) r).handler ≡ Some signature
+      address : sending.AddressOf p.behaviors (signatures p) g from r can here (tokens env) item a signature (aim_handler_id a name (target_behavior a here) r)
       tos : List Sort
       fit : Pairwise (Fits env) args tos
       numbers : Pairwise (λ s t. number_sort s env.behaviors ≡ Some t) tos signature.params
       result : number_sort reply env.behaviors ≡ Some signature.result
 
-    abbrev pub is_actor_aim : Aim → Bool
-    is_actor_aim aim.Own = true
-    is_actor_aim (aim.Actor e) = true
-    is_actor_aim (aim.Output at) = false
+    prints : (args : List Sort) → length args ≤ 1 → Each (λ a. is_printable_sort a ≡ true) args
+        → (ts : List MeantSort) × (Pairwise (Fits env) args args × (Pairwise (λ s t. number_sort s env.behaviors ≡ Some t) args ts × PrintedSorts ts))
+    prints [] l h = ([], (tt, (tt, tt)))
+    prints (s ∷ []) l h = let q = printed env.behaviors s h.0 in (q.0 ∷ [], ((inr refl, tt), ((q.1.0, tt), q.1.1)))
+    prints (s ∷ u ∷ ss) l h = absurd (omega (arith, l))
 
     at_number : (name : List ℕ) (m k : ℕ) (w : Signature) → m ≡ k → signature_at (signatures p) (actor_handler_id name (Some m) r).behavior (actor_handler_id name (Some m) r).handler ≡ Some w → signature_at (signatures p) (actor_handler_id name (Some k) r).behavior (actor_handler_id name (Some k) r).handler ≡ Some w
     at_number name m k w e h = subst (λ (z : ℕ). signature_at (signatures p) (actor_handler_id name (Some z) r).behavior (actor_handler_id name (Some z) r).handler ≡ Some w) e h
@@ -225,10 +255,20 @@ module _ (p : Program) (typed : IsTyped p) (env : Environment) (mine : ℕ) (kno
     target_is : (e : Expr) (b : List ℕ) (k : ℕ) → HasSort env e (plain (Actor b)) → behavior_by_name b env.behaviors ≡ Some k → target_behavior (aim.Actor e) here ≡ Some k
     target_is e b k h n = ap behavior_of ((have_sorts env mine known e false (plain (Actor b)) h).0 ∙ actor_kind env.behaviors b k n)
 
-    aimed : (a : Aim) (name : List ℕ) (args : List Sort) (reply : Sort) → is_actor_aim a ≡ true → aim_is_regular a ≡ true → AimParts a env name args reply → IsAimed a name args reply
-    aimed (aim.Output at) name args reply goes regular h = absurd cc
-    aimed aim.Own name args reply goes regular c =
-        let d = call_addressed p typed env same r (can.1 ∙ same) env.own name args reply c in
+    aimed : (a : Aim) (name : List ℕ) (args : List Sort) (reply : Sort) → aim_is_regular a ≡ true → AimParts a env name args reply → IsAimed a name args reply
+    aimed (aim.Output at) name args reply regular h =
+        let q = prints args h.1 h.2 in
+        record {
+          signature = record { params = q.0; result = void_sort };
+          aim = tt;
+          address = (refl, (print_low (bytes_eq name (codes "println")), (q.1.1.1, refl)));
+          tos = args;
+          fit = q.1.0;
+          numbers = q.1.1.0;
+          result = ap (λ z. number_sort z env.behaviors) (sym h.3) ∙ void_kind env.behaviors;
+        }
+    aimed aim.Own name args reply regular c =
+        let d = call_addressed p typed env same r can.1 env.own name args reply c in
         record {
           signature = d.signature;
           aim = tt;
@@ -238,9 +278,9 @@ module _ (p : Program) (typed : IsTyped p) (env : Environment) (mine : ℕ) (kno
           numbers = subst (λ z. Pairwise (λ s t. number_sort s z ≡ Some t) c.callee.params d.signature.params) (sym same) d.params;
           result = ap (λ z. number_sort z env.behaviors) (sym c.replies) ∙ (ap (λ z. number_sort c.callee.result z) same ∙ d.result);
         }
-    aimed (aim.Actor e) name args reply goes regular h =
+    aimed (aim.Actor e) name args reply regular h =
         let c = h.2 in
-        let d = call_addressed p typed env same r (can.1 ∙ same) h.0 name args reply c in
+        let d = call_addressed p typed env same r can.1 h.0 name args reply c in
         record {
           signature = d.signature;
           aim = has_kind e (plain (Actor h.0)) (and_parts (nat_le postfix (shape_of e).rank) (shape_of e).regular regular).1 h.1;
@@ -255,14 +295,14 @@ module _ (p : Program) (typed : IsTyped p) (env : Environment) (mine : ℕ) (kno
     pub record IsSent (y : Send) (before : Option Sort) (reply : Sort) : Type 0 where
       pub signature : Signature
       pub result : number_sort reply env.behaviors ≡ Some signature.result
-      pub send : sending.SendOf env.behaviors (signatures p) g from (judging.Judgement env mine known) (judging.SuffixJudgement env mine known) (judging.makes env mine known) (judging.judges env mine known) r can here tokens item y (before_kind before) signature
+      pub send : sending.SendOf p.behaviors (signatures p) g from r can here (tokens env) item y (before_kind env.behaviors before) signature
 
-    pub send_of : (y : Send) (before : Option Sort) (reply : Sort) → send_is_regular y ≡ true → ((u : Sort) → before ≡ Some u → IsReplySort u env.behaviors) → is_actor_aim y.aim ≡ true → MessageParts env before y reply → IsSent y before reply
+    pub send_of : (y : Send) (before : Option Sort) (reply : Sort) → send_is_regular y ≡ true → ((u : Sort) → before ≡ Some u → IsReplySort u env.behaviors) → MessageParts env before y reply → IsSent y before reply
     unfolding send_is_regular
-    send_of y before reply regular known_before goes h =
+    send_of y before reply regular known_before h =
         let q = and_parts (aim_is_regular y.aim && list_all arg_is_regular y.args) (list_all property_is_regular y.properties) regular in
         let q2 = and_parts (aim_is_regular y.aim) (list_all arg_is_regular y.args) q.0 in
-        let a = aimed y.aim y.handler.text h.args reply goes q2.0 h.target in
+        let a = aimed y.aim y.handler.text h.args reply q2.0 h.target in
         record {
           signature = a.signature;
           result = a.result;
