@@ -77,6 +77,10 @@ fields_after bs (g ∷ fs) [] h i f u is e y b = absurd h
 fields_after bs (g ∷ fs) (z ∷ ys) h zero f u is e y b = ((u, (ap (λ (q : Field). type_sort q.sort bs) (some_is is) ∙ e, b)), h.1)
 fields_after bs (g ∷ fs) (z ∷ ys) h (suc i) f u is e y b = (h.0, fields_after bs fs ys h.1 i f u is e y b)
 
+-- the type of what is assigned to
+abbrev pub assigned_sort : Bool → List ℕ → Scope → Option Sort
+assigned_sort own name sc = if own then field_sort name sc else name_sort name sc
+
 module _ (bs : List Behavior) (sigs : Signatures) (g : Signature) (from : ℕ) (r : Context) (can : Can bs r) (env : Scope) (ks : List (Option Sort)) (item : Option Sort) where
   abbrev Held : Sorts → State → Type 0
   Held = Holds bs sigs g from r env ks item
@@ -182,10 +186,6 @@ module _ (bs : List Behavior) (sigs : Signatures) (g : Signature) (from : ℕ) (
             (subst (λ o. ContentOf o l.held) e (each_get (λ (x : Local). ContentOf x.sort x.held) s.locals (position_or_len (λ (l : Local). bytes_eq l.name name) s.locals) l h.sits.locals there))))
 
   -- ---- the whole assignment
-
-  -- the type of what is assigned to
-  abbrev pub assigned_sort : Bool → List ℕ → Scope → Option Sort
-  assigned_sort own name sc = if own then field_sort name sc else name_sort name sc
 
   abbrev pub KindsOf : List Expr → Type 0
   KindsOf [] = Unit {0}

@@ -3,6 +3,7 @@ mod Assigning
 mod Ending
 mod Executing
 mod Joining
+mod Leaves
 mod Sending
 mod Sends
 mod Signing
