@@ -94,7 +94,7 @@ module _ (env : Environment) (mine : ℕ) (known : IsKnown env mine) where
       let z : Expr-F Expr Suffix At Operand = Expr-F.Name name in
       (judging.judges env mine known).exprs z here (number_sort v.sort env.behaviors) (judged z v.sort (name_regular name) (variable_typed z name.at (variable_with_name name.text env) v refl found plain_value))
 
-below_is : (o : Option MeantBase) (b : MeantBase) (d : ℕ) → o ≡ Some b → d ≤ 8 → sort_with o d ≡ Some (record { base = b; dims = d })
+pub below_is : (o : Option MeantBase) (b : MeantBase) (d : ℕ) → o ≡ Some b → d ≤ 8 → sort_with o d ≡ Some (record { base = b; dims = d })
 below_is o b d e low = ap (λ z. sort_with z d) e ∙ dims_valid b d low
 
 -- ---- values, declarations, assignments and `return`

@@ -7,3 +7,4 @@ mod Leaves
 mod Sending
 mod Sends
 mod Signing
+mod Statements
