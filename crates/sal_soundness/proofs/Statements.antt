@@ -36,7 +36,7 @@ use Rattle.sal_types.specs.Statements.{StmtTyping, StageWithStart, no_results, s
 use Rattle.sal_typing.specs.Numbers.{number_base, number_sort, number_variable, scope_of}
 use Rattle.sal_typing.specs.Known.{Each, IsReplySort, IsKnown}
 use Rattle.sal_typing.specs.Parts.{HasSort, HasSortIfAny}
-use Rattle.sal_typing.specs.StatementParts.{HasResults, after_stmt, after_init, SequenceParts, StageHasSort, DeclareParts, InitParts, NextParts, ElseParts, JoinParts, StmtParts}
+use Rattle.sal_typing.specs.StatementParts.{HasResults, after_stmt, after_init, SequenceParts, StageHasSort, AssignParts, InitParts, NextParts, ElseParts, JoinParts, StmtParts}
 use Rattle.sal_typing.proofs.Inverting.{good_is, node_parts, bind_parts, rule_holds, none_right}
 use Rattle.sal_typing.proofs.Numbering.{number_of_type, sort_parts, dims_valid}
 use Rattle.sal_typing.proofs.Expressions.{have_sorts}
@@ -58,6 +58,7 @@ use Rattle.sal_handler.specs.Statements as t
 use Rattle.sal_handler.specs.Statements.{StageWithTree, StmtWithTree, ChainWithTree, StageDenotation, stage_step, stmt_step, chain_step, stage_denotation, stmt_denotation, stmt_with_tree, tree_of, denotation_of}
 use Rattle.sal_handler.specs.WellFormed.{EachOf}
 use Rattle.sal_handler.proofs.After.{After, after_more}
+use Rattle.sal_handler.proofs.Executions.{parts}
 use Rattle.sal_handler.proofs.Induction.{IfAny, OfStage, OfStmt, of_stmt}
 use Rattle.sal_fitting.specs.Programs.{signatures}
 use Rattle.sal_fitting.specs.Messages.{join_sort}
@@ -70,6 +71,7 @@ use Rattle.sal_soundness.proofs.Executing as executing
 use Rattle.sal_soundness.proofs.Assigning as assigning
 use Rattle.sal_soundness.proofs.Sends as sends
 use Rattle.sal_soundness.proofs.Sends.{token_kind, tokens, before_kind, number_no_null, void_kind}
+use Rattle.sal_soundness.proofs.Ending.{denotations}
 use Rattle.sal_soundness.proofs.Leaves as leaves
 
 -- ---- lists
@@ -304,3 +306,295 @@ module _ (p : Program) (typed : IsTyped p) (g : Signature) (from : ℕ) where
   chain_of (x ∷ gs) each env mine r item a can s h fine =
       let both = and_parts (stage_is_regular x.0) (all_true (map stage_is_regular (map tree_of gs))) fine in
       chain_go x gs each.0 each.1 env mine r item a can None (λ u e. absurd cc) s h both.0 both.1
+
+  -- ---- names that come into scope
+
+  runs_as : (env : Environment) (mine : ℕ) (r : Context) (item : Option MeantSort) (o : Option Variable) (next : Scope) (more : List (Option MeantSort)) (x : Eval Flow) → next ≡ scope_of (with_variable env o) mine → more ≡ tokens (with_variable env o)
+      → executing.Stmt p.behaviors (signatures p) g from r item (scope_of env mine) next (tokens env) more x → Runs env mine r item o x
+  runs_as env mine r item o next more x a b h =
+      subst (λ z. executing.Stmt p.behaviors (signatures p) g from r item (scope_of env mine) z (tokens env) (tokens (with_variable env o)) x) a
+      (subst (λ z. executing.Stmt p.behaviors (signatures p) g from r item (scope_of env mine) next (tokens env) z x) b h)
+
+  tokens_with : (env : Environment) (v : Variable) (k : Option MeantSort) → k ≡ token_kind env.behaviors v → tokens env ++ k ∷ [] ≡ tokens (with_variable env (Some v))
+  tokens_with env v k e = ap (λ z. tokens env ++ z ∷ []) e ∙ map_one (token_kind env.behaviors) env.scope v
+
+  abbrev declare_variable : Declare → Variable
+  declare_variable d = record { name = d.name.text; sort = sort_of_type d.sort; is_token = false }
+
+  abbrev token_variable : Ident → Verdict Sort → Variable
+  token_variable name v = record { name = name.text; sort = sort_or_void v; is_token = true }
+
+  declare_scope : (env : Environment) (mine : ℕ) (r : Context) → env.behaviors ≡ p.behaviors → Can p.behaviors r → (d : Declare) → scope_with_local d.name.text (type_sort d.sort r.behaviors) (scope_of env mine) ≡ scope_of (with_variable env (Some (declare_variable d))) mine
+  declare_scope env mine r same can d = scope_with env mine (declare_variable d) (type_sort d.sort r.behaviors) (ap (type_sort d.sort) (can.1 ∙ sym same) ∙ sym (number_of_type d.sort env.behaviors))
+
+  -- the first part of a `for`: behind it this is in scope
+  record Begun (env : Environment) (mine : ℕ) (r : Context) (item : Option MeantSort) (next : Scope) (more : List (Option MeantSort)) (x : Eval (Unit {0})) : Type 0 where
+    on : executing.OnFrom p.behaviors (signatures p) g from r item (scope_of env mine) next (tokens env) more
+    does : (sorts : sending.Sorts) (s : State) → Held env mine r item sorts s → After (λ (z : Unit {0}). λ u. sending.Holds p.behaviors (signatures p) g from r next more item sorts u) (x s)
+
+  begun_as : (env : Environment) (mine : ℕ) (r : Context) (item : Option MeantSort) (o : Option Variable) (next : Scope) (more : List (Option MeantSort)) (x : Eval (Unit {0})) → next ≡ scope_of (with_variable env o) mine → more ≡ tokens (with_variable env o)
+      → Begun env mine r item next more x → Begun env mine r item (scope_of (with_variable env o) mine) (tokens (with_variable env o)) x
+  begun_as env mine r item o next more x a b h = subst (λ z. Begun env mine r item z (tokens (with_variable env o)) x) a (subst (λ z. Begun env mine r item next z x) b h)
+
+  on_same : (env : Environment) (mine : ℕ) (r : Context) (item : Option MeantSort) → executing.OnFrom p.behaviors (signatures p) g from r item (scope_of env mine) (scope_of env mine) (tokens env) (tokens env)
+  on_same env mine r item = executing.on_same p.behaviors (signatures p) g from r item (scope_of env mine) (tokens env)
+
+  assign_does : (env : Environment) (mine : ℕ) (r : Context) (item : Option MeantSort) → Stands env mine r → (can : Can p.behaviors r) → (a : Assign) → assign_is_regular a ≡ true → AssignParts a env → executing.Does p.behaviors (signatures p) g from r item (scope_of env mine) (tokens env) (t.exec_assign a r)
+  assign_does env mine r item a can x fine h = assigning.assign_held p.behaviors (signatures p) g from r can (scope_of env mine) (tokens env) item x (leaves.assigned p typed g from env mine a.known a.same r can item x fine h)
+
+  begins : (i : ForInit) (env : Environment) (mine : ℕ) (r : Context) (item : Option MeantSort) → Stands env mine r → (can : Can p.behaviors r) → init_is_regular i ≡ true → InitParts i env → Begun env mine r item (scope_of (after_init env i) mine) (tokens (after_init env i)) (t.exec_for_init i r)
+  begins init.Nothing env mine r item a can fine h = record { on = on_same env mine r item; does = λ sorts s hh. hh }
+  begins (init.Declare d) env mine r item a can fine h =
+      let dd = leaves.declared p typed g from env mine a.known a.same r can item d fine h in
+      begun_as env mine r item (Some (declare_variable d)) (scope_with_local d.name.text (type_sort d.sort r.behaviors) (scope_of env mine)) (tokens env ++ None ∷ []) (t.exec_declare d r)
+      (declare_scope env mine r a.same can d) (tokens_with env (declare_variable d) None refl)
+      (record {
+        on = executing.on_declared p.behaviors (signatures p) g from r item can (scope_of env mine) (tokens env) d;
+        does = executing.declared_held p.behaviors (signatures p) g from r item can (scope_of env mine) (tokens env) d dd.sort dd.is dd.first;
+      })
+  begins (init.Assign x) env mine r item a can fine h = record { on = on_same env mine r item; does = assign_does env mine r item a can x fine h }
+
+  -- ---- tests
+
+  abbrev Tested : Environment → ℕ → Context → Option MeantSort → Eval Bool → Type 0
+  Tested env mine r item x = executing.Tested p.behaviors (signatures p) g from r item (scope_of env mine) (tokens env) x
+
+  tested : (env : Environment) (mine : ℕ) (r : Context) (item : Option MeantSort) → Stands env mine r → (can : Can p.behaviors r) → (e : Expr) → expr_is_regular e ≡ true → HasSort env e (plain Boolean) → Tested env mine r item (t.eval_test e r)
+  tested env mine r item a can e fine h =
+      let k = sends.has_kind p typed env mine a.known a.same g from item r can e (plain Boolean) fine h in
+      executing.truth_tested p.behaviors (signatures p) g from r item can (scope_of env mine) (tokens env) e k.0 k.1
+
+  tested_if : (env : Environment) (mine : ℕ) (r : Context) (item : Option MeantSort) → Stands env mine r → (can : Can p.behaviors r) → (o : Option Expr) → option_is_regular o ≡ true → HasSortIfAny env o (plain Boolean) → Tested env mine r item (t.eval_for_test o r)
+  tested_if env mine r item a can None fine h = λ sorts s hh. hh
+  tested_if env mine r item a can (Some e) fine h = tested env mine r item a can e fine h
+
+  steps : (env : Environment) (mine : ℕ) (r : Context) (item : Option MeantSort) → Stands env mine r → (can : Can p.behaviors r) → (o : Option Assign) → or_true (option_map assign_is_regular o) ≡ true → NextParts o env → executing.Does p.behaviors (signatures p) g from r item (scope_of env mine) (tokens env) (t.exec_for_next o r)
+  steps env mine r item a can None fine h = λ sorts s hh. hh
+  steps env mine r item a can (Some x) fine h = assign_does env mine r item a can x fine h
+
+  -- ---- chains as statements
+
+  place_end : (r : Context) (can : Can p.behaviors r) (sc : Scope) (ks : List (Option MeantSort)) (item : Option MeantSort) (is : List EnclosingJoin) (u : MeantSort) → TakenBy is item u → sending.EndOf p.behaviors (signatures p) g from r can sc ks item (t.plain_end is) u
+  place_end r can sc ks item [] u h = tt
+  place_end r can sc ks item (i ∷ is) u h = h
+
+  plain_stays : (env : Environment) (mine : ℕ) (r : Context) (item : Option MeantSort) (can : Can p.behaviors r) (xs : List StageDenotation) (u : MeantSort) → ChainOf env mine r can item xs None u → TakenBy r.within item u → Stays env mine r item (t.exec_chain_stmt None xs r)
+  plain_stays env mine r item can [] u f h = absurd f
+  plain_stays env mine r item can (x ∷ more) u f h = sending.plain_chain p.behaviors (signatures p) g from r can (scope_of env mine) (tokens env) item x more u f (place_end r can (scope_of env mine) (tokens env) item r.within u h)
+
+  passed_stays : (env : Environment) (mine : ℕ) (r : Context) (item : Option MeantSort) (can : Can p.behaviors r) (at : ℕ) (xs : List StageDenotation) (u : MeantSort) → ChainOf env mine r can item xs None u → u ≡ g.result → r.within ≡ [] → Stays env mine r item (t.exec_chain_stmt (Some at) xs r)
+  passed_stays env mine r item can at [] u f same out = absurd f
+  passed_stays env mine r item can at (x ∷ more) u f same out = sending.passed_chain p.behaviors (signatures p) g from r can (scope_of env mine) (tokens env) item at x more u f same out
+
+  token_runs : (env : Environment) (mine : ℕ) (r : Context) (item : Option MeantSort) (can : Can p.behaviors r) (name : List ℕ) (xs : List StageDenotation) (u : MeantSort) → ChainOf env mine r can item xs None u
+      → executing.Stmt p.behaviors (signatures p) g from r item (scope_of env mine) (scope_with_local name None (scope_of env mine)) (tokens env) (tokens env ++ Some u ∷ []) (t.exec_token_stmt name xs r)
+  token_runs env mine r item can name [] u f = absurd f
+  token_runs env mine r item can name (x ∷ more) u f = executing.token_stmt p.behaviors (signatures p) g from r item can (scope_of env mine) (tokens env) name x more u f 0
+
+  -- ---- each form
+
+  abbrev stmt_trees : Stmt-F StageWithTree StmtWithTree ChainWithTree → Stmt-F Stage Stmt Chain
+  stmt_trees = map-Stmt StageWithTree StmtWithTree ChainWithTree Stage Stmt Chain tree_of tree_of tree_of
+
+  abbrev stmt_formed : Stmt-F Stage Stmt Chain → Form
+  stmt_formed z = regular.stmt_step (map-Stmt Stage Stmt Chain Bool Form Bool stage_is_regular form_of chain_is_regular z)
+
+  -- what is asked of a form
+  abbrev FormRuns : Stmt-F StageWithTree StmtWithTree ChainWithTree → Type 0
+  FormRuns x = (env : Environment) (mine : ℕ) (r : Context) (item : Option MeantSort) → Stands env mine r → Can p.behaviors r → (rs : List Sort) → (typed_form (stmt_trees x) env).1 ≡ Good rs → (stmt_formed (stmt_trees x)).regular ≡ true → Fitting r item rs
+      → Runs env mine r item (typed_form (stmt_trees x) env).0 (stmt_denotation x r)
+
+  stays_runs : (env : Environment) (mine : ℕ) (r : Context) (item : Option MeantSort) (x : Eval Flow) → Stays env mine r item x → Runs env mine r item None x
+  stays_runs env mine r item x f = executing.stays_stmt p.behaviors (signatures p) g from r item (scope_of env mine) (tokens env) x f
+
+  -- a statement by itself, out of whose scope nothing comes
+  alone : (q : StmtWithTree) → T q → (env : Environment) (mine : ℕ) (r : Context) (item : Option MeantSort) → Stands env mine r → Can p.behaviors r → (rs : List Sort) → HasResults env q.0 rs → (form_of q.0).regular ≡ true → Fitting r item rs → Stays env mine r item (c.in_new_scope (q.1 r))
+  alone q f env mine r item a can rs h fine fits = executing.scoped_stays p.behaviors (signatures p) g from r item (scope_of env mine) (scope_of (after_stmt env q.0) mine) (tokens env) (tokens (after_stmt env q.0)) (q.1 r) (f env mine r item a can rs h fine fits)
+
+  abbrev Taken : Context → Option MeantSort → Sort → Type 0
+  Taken r item s = (u : MeantSort) → num s ≡ Some u → TakenBy r.within item u
+
+  block_runs : (at : ℕ) (list : List StmtWithTree) → EachOf T list → FormRuns (Stmt-F.Block at list)
+  block_runs at list each env mine r item a can rs h fine fits =
+      stays_runs env mine r item (t.sequence_in_scope (map denotation_of list) r)
+      (executing.block_left p.behaviors (signatures p) g from r item (map denotation_of list) (scope_of env mine) (tokens env) (sequence_of list each env mine r item a can rs (form_parts (Stmt-F.Block at (map tree_of list)) env rs h) fine fits))
+
+  declare_runs : (d : Declare) → FormRuns (Stmt-F.Declare d)
+  declare_runs d env mine r item a can rs h fine fits =
+      let dd = leaves.declared p typed g from env mine a.known a.same r can item d fine (form_parts (Stmt-F.Declare d) env rs h).0 in
+      runs_as env mine r item (Some (declare_variable d)) (scope_with_local d.name.text (type_sort d.sort r.behaviors) (scope_of env mine)) (tokens env ++ None ∷ []) (stmt_denotation (Stmt-F.Declare d) r)
+      (declare_scope env mine r a.same can d) (tokens_with env (declare_variable d) None refl)
+      (executing.declared_stmt p.behaviors (signatures p) g from r item can (scope_of env mine) (tokens env) d dd.sort dd.is dd.first)
+
+  assign_runs : (x : Assign) → FormRuns (Stmt-F.Assign x)
+  assign_runs x env mine r item a can rs h fine fits =
+      stays_runs env mine r item (stmt_denotation (Stmt-F.Assign x) r)
+      (executing.does_stays p.behaviors (signatures p) g from r item (scope_of env mine) (tokens env) (t.exec_assign x r) (assign_does env mine r item a can x fine (form_parts (Stmt-F.Assign x) env rs h).0))
+
+  if_runs : (at : ℕ) (test : Expr) (first : StmtWithTree) → T first → FormRuns (Stmt-F.If at test first None)
+  if_runs at test first f env mine r item a can rs h fine fits =
+      let q = form_parts (Stmt-F.If at test first.0 None) env rs h in
+      let both = and_parts (expr_is_regular test) (form_of first.0).regular fine in
+      let all : Fitting r item (q.0 ++ q.1) = subst (Fitting r item) (sym q.5) fits in
+      stays_runs env mine r item (stmt_denotation (Stmt-F.If at test first None) r)
+      (executing.if_stays p.behaviors (signatures p) g from r item (scope_of env mine) (tokens env) (t.eval_test test r) (c.in_new_scope (first.1 r)) _ (tested env mine r item a can test both.0 q.2)
+      (alone first f env mine r item a can q.0 q.3 both.1 (each_left (Taken r item) q.0 q.1 all))
+      (executing.next_stays p.behaviors (signatures p) g from r item (scope_of env mine) (tokens env)))
+
+  else_runs : (at : ℕ) (test : Expr) (first second : StmtWithTree) → T first → T second → FormRuns (Stmt-F.If at test first (Some second))
+  else_runs at test first second f k env mine r item a can rs h fine fits =
+      let q = form_parts (Stmt-F.If at test first.0 (Some second.0)) env rs h in
+      let both = and_parts (expr_is_regular test && (form_of first.0).regular && not (form_of first.0).takes_else) (form_of second.0).regular fine in
+      let front = and_parts (expr_is_regular test) (form_of first.0).regular (and_parts (expr_is_regular test && (form_of first.0).regular) (not (form_of first.0).takes_else) both.0).0 in
+      let all : Fitting r item (q.0 ++ q.1) = subst (Fitting r item) (sym q.5) fits in
+      stays_runs env mine r item (stmt_denotation (Stmt-F.If at test first (Some second)) r)
+      (executing.if_stays p.behaviors (signatures p) g from r item (scope_of env mine) (tokens env) (t.eval_test test r) (c.in_new_scope (first.1 r)) (c.in_new_scope (second.1 r)) (tested env mine r item a can test front.0 q.2)
+      (alone first f env mine r item a can q.0 q.3 front.1 (each_left (Taken r item) q.0 q.1 all))
+      (alone second k env mine r item a can q.1 q.4 both.1 (each_right (Taken r item) q.0 q.1 all)))
+
+  while_runs : (at : ℕ) (test : Expr) (body : StmtWithTree) → T body → FormRuns (Stmt-F.While at test body)
+  while_runs at test body f env mine r item a can rs h fine fits =
+      let q = form_parts (Stmt-F.While at test body.0) env rs h in
+      let both = and_parts (expr_is_regular test) (form_of body.0).regular fine in
+      stays_runs env mine r item (t.while_loop (t.eval_test test r) (body.1 r))
+      (executing.looped_stays p.behaviors (signatures p) g from r item (scope_of env mine) (tokens env) t.loop_bound (t.eval_test test r) (c.in_new_scope (body.1 r)) (tested env mine r item a can test both.0 q.0)
+      (alone body f env mine r item a can rs q.1 both.1 fits))
+
+  for_runs : (at : ℕ) (first : ForInit) (test : Option Expr) (next : Option Assign) (body : StmtWithTree) → T body → FormRuns (Stmt-F.For at first test next body)
+  for_runs at first test next body f env mine r item a can rs h fine fits =
+      let q = form_parts (Stmt-F.For at first test next body.0) env rs h in
+      let both = and_parts (init_is_regular first && option_is_regular test && or_true (option_map assign_is_regular next)) (form_of body.0).regular fine in
+      let three = and_parts (init_is_regular first && option_is_regular test) (or_true (option_map assign_is_regular next)) both.0 in
+      let two = and_parts (init_is_regular first) (option_is_regular test) three.0 in
+      let inner = stands_with env mine r (for_init_typing first env).0 a (init_stays at first test next body.0 env mine a.known rs h) in
+      let b = begins first env mine r item a can two.0 q.0 in
+      stays_runs env mine r item (t.for_loop (t.exec_for_init first r) (t.eval_for_test test r) (t.exec_for_next next r) (body.1 r))
+      (executing.for_stays p.behaviors (signatures p) g from r item (scope_of env mine) (scope_of (after_init env first) mine) (tokens env) (tokens (after_init env first)) (t.exec_for_init first r) (t.eval_for_test test r) (t.exec_for_next next r) (body.1 r) b.on b.does
+      (tested_if (after_init env first) mine r item inner can test two.1 q.1)
+      (steps (after_init env first) mine r item inner can next three.1 q.2)
+      (alone body f (after_init env first) mine r item inner can rs q.3 both.1 fits))
+
+  return_runs : (at : ℕ) (value : Option Expr) → FormRuns (Stmt-F.Return at value)
+  return_runs at value env mine r item a can rs h fine fits =
+      let q = form_parts (Stmt-F.Return at value) env rs h in
+      stays_runs env mine r item (stmt_denotation (Stmt-F.Return at value) r)
+      (executing.return_stays p.behaviors (signatures p) g from r item can (scope_of env mine) (tokens env) value (leaves.returned p typed g from env mine a.known a.same r can item value fine q.0 (ap (number_sort env.result) a.same ∙ a.result)))
+
+  stmt_token : (at : ℕ) (name : Ident) (q : ChainWithTree) → C q → FormRuns (Stmt-F.Token at name q)
+  stmt_token at name q f env mine r item a can rs h fine fits =
+      let stages : Verdict Sort = stages_verdict None (chain_typing q.0) env in
+      let n = node_parts (stages_verdict None (chain_typing q.0) env) (λ s. statement_rules env at ++ free_rules name env ++ leave_rules at (not env.in_join)) no_results rs h in
+      let ch = f env mine r item a can n.part n.typed fine in
+      let kind : Some ch.sort ≡ number_sort (sort_or_void (stages_verdict None (chain_typing q.0) env)) env.behaviors = sym (ap (λ v. number_sort (sort_or_void v) env.behaviors) n.typed ∙ (ap (number_sort n.part) a.same ∙ ch.is)) in
+      runs_as env mine r item (Some (token_variable name stages)) (scope_with_local name.text None (scope_of env mine)) (tokens env ++ Some ch.sort ∷ []) (t.exec_token_stmt name.text q.1 r)
+      (scope_with env mine (token_variable name stages) None refl) (tokens_with env (token_variable name stages) (Some ch.sort) kind)
+      (token_runs env mine r item can name.text q.1 ch.sort ch.of)
+
+  stmt_chain : (q : ChainWithTree) → C q → (passed : Option ℕ) → FormRuns (Stmt-F.Chain q passed)
+  stmt_chain q f passed env mine r item a can rs h fine fits =
+      let n = node_parts (stages_verdict None (chain_typing q.0) env) (λ s. statement_rules env (chain_start (chain_typing q.0)) ++ continuation_rules passed s env) (λ s. s ∷ []) rs h in
+      let ch = f env mine r item a can n.part n.typed fine in
+      let one : Fitting r item (n.part ∷ []) = subst (Fitting r item) (sym n.is) fits in
+      stays_runs env mine r item (t.exec_chain_stmt passed q.1 r)
+      (by passed n.part ch (one.0 ch.sort ch.is) (none_right (statement_rules env (chain_start (chain_typing q.0))) (continuation_rules passed n.part env) n.keeps))
+    where
+      by : (o : Option ℕ) (s : Sort) (ch : IsChain env mine r can item q.1 None s) → TakenBy r.within item ch.sort → continuation_rules o s env ≡ [] → Stays env mine r item (t.exec_chain_stmt o q.1 r)
+      by None s ch taken rules = plain_stays env mine r item can q.1 ch.sort ch.of taken
+      by (Some at) s ch taken rules =
+          let both = and_parts (not env.in_join) (is_same_sort s env.result) (rule_holds 29 at (not env.in_join && is_same_sort s env.result) rules) in
+          let same : ch.sort ≡ g.result = some_is (sym ch.is ∙ (ap num (same_sort_is s env.result both.1) ∙ a.result)) in
+          passed_stays env mine r item can at q.1 ch.sort ch.of same (a.outside (not-true env.in_join both.0))
+
+  empty_runs : (at : ℕ) → FormRuns (Stmt-F.Empty at)
+  empty_runs at env mine r item a can rs e fine fits = stays_runs env mine r item _ (executing.next_stays p.behaviors (signatures p) g from r item (scope_of env mine) (tokens env))
+
+  form_runs : (x : Stmt-F StageWithTree StmtWithTree ChainWithTree) → OfStmt G T C x → FormRuns x
+  form_runs (Stmt-F.Empty at) h = empty_runs at
+  form_runs (Stmt-F.Block at list) h = block_runs at list h
+  form_runs (Stmt-F.Declare d) h = declare_runs d
+  form_runs (Stmt-F.Assign x) h = assign_runs x
+  form_runs (Stmt-F.If at test first None) h = if_runs at test first h.0
+  form_runs (Stmt-F.If at test first (Some second)) h = else_runs at test first second h.0 h.1
+  form_runs (Stmt-F.While at test body) h = while_runs at test body h
+  form_runs (Stmt-F.For at first test next body) h = for_runs at first test next body h
+  form_runs (Stmt-F.Return at value) h = return_runs at value
+  form_runs (Stmt-F.Token at name q) h = stmt_token at name q h
+  form_runs (Stmt-F.Chain q passed) h = stmt_chain q h passed
+
+  -- ---- all statements
+
+  typed_is : (z : Stmt-F Stage Stmt Chain) → stmt_typing (roll-Stmt z) ≡ typed_form z
+  unfolding stage_typing stmt_typing chain_typing
+  typed_is z = fold-roll-Stmt StageWithStart StmtTyping (List StageWithStart) typing.stage_step typing.stmt_step typing.chain_step z
+
+  formed_is : (z : Stmt-F Stage Stmt Chain) → form_of (roll-Stmt z) ≡ stmt_formed z
+  unfolding stage_is_regular form_of chain_is_regular
+  formed_is z = fold-roll-Stmt Bool Form Bool regular.stage_step regular.stmt_step regular.chain_step z
+
+  stmts : (x : Stmt-F StageWithTree StmtWithTree ChainWithTree) → OfStmt G T C x → T (stmt_step x)
+  stmts x h env mine r item a can rs e fine fits =
+      let z = stmt_trees x in
+      subst (λ (m : StmtTyping). Runs env mine r item (m env).0 (stmt_denotation x r)) (sym (typed_is z))
+      (form_runs x h env mine r item a can rs (ap (λ (m : StmtTyping). (m env).1) (sym (typed_is z)) ∙ e) (ap (λ (f : Form). f.regular) (sym (formed_is z)) ∙ fine) fits)
+
+  abbrev stage_trees : Stage-F StageWithTree StmtWithTree ChainWithTree → Stage-F Stage Stmt Chain
+  stage_trees = map-Stage StageWithTree StmtWithTree ChainWithTree Stage Stmt Chain tree_of tree_of tree_of
+
+  abbrev stage_formed : Stage-F Stage Stmt Chain → Bool
+  stage_formed z = regular.stage_step (map-Stage Stage Stmt Chain Bool Form Bool stage_is_regular form_of chain_is_regular z)
+
+  stage_typed_is : (z : Stage-F Stage Stmt Chain) → stage_typing (roll-Stage z) ≡ typed_stage z
+  unfolding stage_typing stmt_typing chain_typing
+  stage_typed_is z = fold-roll-Stage StageWithStart StmtTyping (List StageWithStart) typing.stage_step typing.stmt_step typing.chain_step z
+
+  stage_formed_is : (z : Stage-F Stage Stmt Chain) → stage_is_regular (roll-Stage z) ≡ stage_formed z
+  unfolding stage_is_regular form_of chain_is_regular
+  stage_formed_is z = fold-roll-Stage Bool Form Bool regular.stage_step regular.stmt_step regular.chain_step z
+
+  stage_form : (x : Stage-F StageWithTree StmtWithTree ChainWithTree) → OfStage G T C x → (env : Environment) (mine : ℕ) (r : Context) (item : Option MeantSort) → Stands env mine r → (can : Can p.behaviors r) → (before : Option Sort) → IsKnownBefore env before → (s : Sort) → (typed_stage (stage_trees x)).1 env before ≡ Good s → stage_formed (stage_trees x) ≡ true → IsStage env mine r can item (stage_denotation x) before s
+  stage_form (Stage-F.Message y) h env mine r item a can before kb s e fine = message_of y env mine r item a can before kb s e fine
+  stage_form (Stage-F.Join at body) h env mine r item a can before kb s e fine = join_of at body h env mine r item a can before s e fine
+
+  stages : (x : Stage-F StageWithTree StmtWithTree ChainWithTree) → OfStage G T C x → G (stage_step x)
+  stages x h env mine r item a can before kb s e fine =
+      let z = stage_trees x in
+      stage_form x h env mine r item a can before kb s (ap (λ (m : StageWithStart). m.1 env before) (sym (stage_typed_is z)) ∙ e) (sym (stage_formed_is z) ∙ fine)
+
+  abbrev chain_trees : Chain-F StageWithTree StmtWithTree ChainWithTree → Chain-F Stage Stmt Chain
+  chain_trees = map-Chain StageWithTree StmtWithTree ChainWithTree Stage Stmt Chain tree_of tree_of tree_of
+
+  chain_typed_is : (z : Chain-F Stage Stmt Chain) → chain_typing (roll-Chain z) ≡ map stage_typing z.stages
+  unfolding stage_typing stmt_typing chain_typing
+  chain_typed_is z = fold-roll-Chain StageWithStart StmtTyping (List StageWithStart) typing.stage_step typing.stmt_step typing.chain_step z
+
+  chain_formed_is : (z : Chain-F Stage Stmt Chain) → chain_is_regular (roll-Chain z) ≡ has_any (map stage_is_regular z.stages) && all_true (map stage_is_regular z.stages)
+  unfolding stage_is_regular form_of chain_is_regular
+  chain_formed_is z = fold-roll-Chain Bool Form Bool regular.stage_step regular.stmt_step regular.chain_step z
+
+  chains : (x : Chain-F StageWithTree StmtWithTree ChainWithTree) → EachOf G x.stages → C (chain_step x)
+  chains x h env mine r item a can s e fine =
+      let z = chain_trees x in
+      chain_of x.stages h env mine r item a can s (ap (λ gs. stages_verdict None gs env) (sym (chain_typed_is z)) ∙ e) (sym (chain_formed_is z) ∙ fine)
+
+  all_run : (x : Stmt) → T (stmt_with_tree x)
+  all_run = of_stmt G T C stages stmts chains
+
+  each_runs : (body : List Stmt) → EachOf T (map stmt_with_tree body)
+  each_runs [] = tt
+  each_runs (x ∷ xs) = (all_run x, each_runs xs)
+
+  -- a typed body keeps the state typed
+  pub body_held : (body : List Stmt) (env : Environment) (mine : ℕ) (r : Context) → Stands env mine r → Can p.behaviors r → r.within ≡ [] → (rs : List Sort) → SequenceParts body env rs → all_forms_regular (map form_of body) ≡ true
+      → (sorts : sending.Sorts) (s : State) → Held env mine r None sorts s → After (λ f u. sending.Within p.behaviors (signatures p) g from r (scope_of env mine) (tokens env) None sorts u × FlowOk g.result f) (t.exec_block body r s)
+  body_held body env mine r a can out rs h fine sorts s hh =
+      subst (λ ms. After (λ f u. sending.Within p.behaviors (signatures p) g from r (scope_of env mine) (tokens env) None sorts u × FlowOk g.result f) (t.sequence_in_scope ms r s)) (denotations body)
+      (executing.block_left p.behaviors (signatures p) g from r None (map denotation_of (map stmt_with_tree body)) (scope_of env mine) (tokens env)
+      (sequence_of (map stmt_with_tree body) (each_runs body) env mine r None a can rs (subst (λ b. SequenceParts b env rs) (sym (parts body)) h) (ap (λ b. all_forms_regular (map form_of b)) (parts body) ∙ fine) (taken rs))
+      sorts s hh)
+    where
+      nobody : (is : List EnclosingJoin) (u : MeantSort) → is ≡ [] → TakenBy is None u
+      nobody is u e = subst (λ z. TakenBy z None u) (sym e) tt
+
+      taken : (rs : List Sort) → Fitting r None rs
+      taken [] = tt
+      taken (s ∷ ss) = (λ u e. nobody r.within u out, taken ss)
