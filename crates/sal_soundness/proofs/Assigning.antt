@@ -71,7 +71,7 @@ value_after top below is base dims old new y o n e =
 
 -- ---- fields
 
-fields_after : (bs : List Behavior) (fs : List Field) (ys : List Value) → AreFields bs fs ys → (i : ℕ) (f : Field) (u : Sort) → slice_get fs i ≡ Some f → type_sort f.sort bs ≡ Some u → (y : Value) → Belongs u y → AreFields bs fs (slice_set ys i y)
+pub fields_after : (bs : List Behavior) (fs : List Field) (ys : List Value) → AreFields bs fs ys → (i : ℕ) (f : Field) (u : Sort) → slice_get fs i ≡ Some f → type_sort f.sort bs ≡ Some u → (y : Value) → Belongs u y → AreFields bs fs (slice_set ys i y)
 fields_after bs [] ys h i f u is e y b = absurd cc
 fields_after bs (g ∷ fs) [] h i f u is e y b = absurd h
 fields_after bs (g ∷ fs) (z ∷ ys) h zero f u is e y b = ((u, (ap (λ (q : Field). type_sort q.sort bs) (some_is is) ∙ e, b)), h.1)

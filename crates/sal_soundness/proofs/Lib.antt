@@ -4,6 +4,7 @@ mod Ending
 mod Executing
 mod Joining
 mod Leaves
+mod Making
 mod Sending
 mod Sends
 mod Signing
