@@ -2,6 +2,7 @@ mod Anywhere
 mod Assigning
 mod Ending
 mod Executing
+mod Handling
 mod Joining
 mod Leaves
 mod Making

@@ -115,7 +115,7 @@ append_nothing : {A : Type 0} (xs : List A) → xs ≡ xs ++ []
 append_nothing [] = refl
 append_nothing (x ∷ xs) = ap (λ l. x ∷ l) (append_nothing xs)
 
-with_params_is : (ps : List Param) (env : Environment) → with_params env ps ≡ record env { scope = env.scope ++ map param_variable ps }
+pub with_params_is : (ps : List Param) (env : Environment) → with_params env ps ≡ record env { scope = env.scope ++ map param_variable ps }
 with_params_is [] env = (λ i. record env { scope = append_nothing env.scope i })
 with_params_is (q ∷ qs) env = with_params_is qs (with_variable env (Some (param_variable q))) ∙ (λ i. record env { scope = append_assoc env.scope (param_variable q ∷ []) (map param_variable qs) i })
 

@@ -43,7 +43,7 @@ valid_name : (name : List ℕ) (bs : List Behavior) (n : ℕ) → behavior_by_na
 unfolding behavior_by_name
 valid_name name bs n e = valid (position (λ (b : Behavior). bytes_eq b.name.text name) bs) n e
 
-no_output : (n k : ℕ) → n < RESERVED → fits.is_migrate n k ≡ false
+pub no_output : (n k : ℕ) → n < RESERVED → fits.is_migrate n k ≡ false
 no_output n k l = ap (λ b. b && nat_eq k MIGRATE) (ne_eqb n OUTPUT (λ e. absurd (omega (arith, l, e))))
 
 -- ---- the two ways to read a signature off a program
@@ -68,7 +68,7 @@ of_behavior : (bs : List Behavior) (g : Signature) (k : ℕ) (o : Option Behavio
 of_behavior bs g k None e = absurd cc
 of_behavior bs g k (Some b) e = of_handler bs g (slice_get (handlers_of b) k) e
 
-at_number : (bs : List Behavior) (n : ℕ) → handlers_at bs (Some n) ≡ handlers_in (slice_get bs n)
+pub at_number : (bs : List Behavior) (n : ℕ) → handlers_at bs (Some n) ≡ handlers_in (slice_get bs n)
 at_number bs n = by (slice_get bs n) refl
   where
     by : (o : Option Behavior) → slice_get bs n ≡ o → handlers_at bs (Some n) ≡ handlers_in (slice_get bs n)

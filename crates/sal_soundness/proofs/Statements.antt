@@ -224,7 +224,7 @@ module _ (p : Program) (typed : IsTyped p) (g : Signature) (from : ℕ) where
         held = sending.message_stage p.behaviors (signatures p) g from r can (scope_of env mine) (tokens env) item y m.signature (before_kind env.behaviors before) m.send;
       }
 
-  slot_of : (s : Sort) → IsReplySort s p.behaviors → (u : MeantSort) × (num s ≡ Some u)
+  pub slot_of : (s : Sort) → IsReplySort s p.behaviors → (u : MeantSort) × (num s ≡ Some u)
   slot_of s (inl e) = (void_sort, ap num e ∙ void_kind p.behaviors)
   slot_of s (inr v) = (v.number, v.means)
 
