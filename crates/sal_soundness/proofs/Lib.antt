@@ -1,11 +1,13 @@
 mod Anywhere
 mod Assigning
+mod Beginning
 mod Ending
 mod Executing
 mod Handling
 mod Joining
 mod Leaves
 mod Making
+mod Running
 mod Sending
 mod Sends
 mod Signing

@@ -173,7 +173,7 @@ left_fields : {A : Type 0} (P : List Value → Type 0) (o : OrTrap (A × State))
 left_fields P (Ok x) vs h e = let same : x.1.fields ≡ vs = cc in subst P same h
 left_fields P (Err k) vs h e = absurd cc
 
-valid_is : (k n : ℕ) → valid_number (Some k) ≡ Some n → k ≡ n
+pub valid_is : (k n : ℕ) → valid_number (Some k) ≡ Some n → k ≡ n
 valid_is k n e = by (nat_lt k RESERVED) e
   where
     by : (b : Bool) → (if b then Some k else None) ≡ Some n → k ≡ n
