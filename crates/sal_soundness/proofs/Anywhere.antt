@@ -1,6 +1,6 @@
 -- The checker's judgement of expressions, wherever one stands in a program, and that what is so judged keeps types. Fields of
 -- new actors are of a behaviour that the program has.
-use Rattle.std.proofs.Common.{◌≡◌, ℕ, List, [], ◌∷◌, Option, Some, None, Ok, refl, ap, subst}
+use Rattle.std.proofs.Common.{◌≡◌, ℕ, List, [], ◌∷◌, Option, Some, None, ap, subst}
 use Rattle.std.specs.Prelude.{slice_get}
 use Rattle.sal_value.specs.declared.value.Sort.{Sort as MeantSort}
 use Rattle.sal_value.specs.declared.value.Value.{Value}
@@ -19,7 +19,6 @@ use Rattle.sal_handler.specs.declared.state.State.{State}
 use Rattle.sal_handler.specs.Expressions.{eval}
 use Rattle.sal_handler.specs.Scopes as c
 use Rattle.sal_handler.specs.Scopes.{Context, scope_of}
-use Rattle.sal_handler.specs.WellFormed.{EachOf}
 use Rattle.sal_handler.proofs.Addresses.{each_more}
 use Rattle.sal_preservation.specs.States.{IsOf as Has, FieldsOf, params_of}
 use Rattle.sal_preservation.proofs.Judged as j

@@ -1,5 +1,5 @@
 -- An accepted program begins with a state of its types, and with `act`, which takes the words.
-use Rattle.std.proofs.Common.{◌≡◌, ℕ, zero, suc, ◌+◌, ◌<◌, ◌≤◌, Bool, true, false, ◌&&◌, if◌then◌else◌, nat_eq, List, [], ◌∷◌, length, map, Option, Some, None, Ok, Err, refl, sym, ap, subst, ◌∙◌, arith}
+use Rattle.std.proofs.Common.{◌≡◌, ℕ, suc, ◌+◌, ◌<◌, Bool, true, false, ◌&&◌, if◌then◌else◌, nat_eq, List, [], ◌∷◌, map, Option, Some, None, Ok, Err, refl, sym, ap, subst, ◌∙◌, arith}
 use Rattle.std.specs.Prelude.{slice_get, nat_lt, codes}
 use Rattle.std.specs.List.{find, position, position_or_len}
 use Rattle.std.specs.Str.{bytes_eq}
@@ -19,16 +19,13 @@ use Rattle.sal_ast.specs.Members.{Handler, handlers_of, valid_number}
 use Rattle.sal_ast.specs.Sorts.{base_of, sort_with, type_sort}
 use Rattle.sal_types.specs.Programs.{IsAccepted}
 use Rattle.sal_typing.proofs.Finding.{position_of, no_position, stands_first}
-use Rattle.sal_handler.specs.declared.turn.Began.TheVariants as began
 use Rattle.sal_handler.specs.Evaluation.{OrTrap}
 use Rattle.sal_handler.specs.Fits as fits
 use Rattle.sal_handler.specs.Fits.{fits_sort, fit_sorts, sorts_of, fits_call, fits_state, meaning_of}
 use Rattle.sal_handler.specs.Handler as h
 use Rattle.sal_handler.specs.WellFormed.{EachOf, Legal}
 use Rattle.sal_effects.proofs.Spelling.{begin_legally}
-use Rattle.sal_fitting.specs.Programs.{signatures}
 use Rattle.sal_fitting.specs.Runs.{BeginsTyped}
-use Rattle.sal_fitting.specs.Signatures.{fits_sorts}
 use Rattle.sal_fitting.proofs.Pieces.{both}
 use Rattle.sal_fitting.proofs.Running.{program_agrees}
 use Rattle.sal_soundness.specs.Laws.{AreWords}

@@ -1,14 +1,13 @@
 -- A statement that surely ends, outside of joins, doesn't go on to the next.
-use Rattle.std.proofs.Common.{◌≡◌, Bool, true, false, ◌&&◌, ◌||◌, if◌then◌else◌, List, [], ◌∷◌, length, map, Option, Some, None, Ok, Err, refl, sym, ap, subst, ◌∙◌}
+use Rattle.std.proofs.Common.{◌≡◌, Bool, true, false, ◌||◌, if◌then◌else◌, List, [], ◌∷◌, length, map, Some, None, Ok, Err, refl, sym, ap, subst, ◌∙◌}
 use Rattle.std.specs.List.{list_any}
 use Rattle.std.proofs.lemmas.Bool.{and_parts}
-use Rattle.sal_value.specs.declared.value.Value.{Value}
 use Rattle.sal_value.specs.declared.value.Value.TheVariants.{Null}
 use Rattle.sal_ast.specs.declared.statement.Stage.{Stage}
 use Rattle.sal_ast.specs.declared.statement.Stmt.{Stmt}
 use Rattle.sal_ast.specs.declared.statement.Chain.{Chain}
 use Rattle.sal_ast.specs.declared.statement.Stage.TheViews.{roll-Stmt}
-use Rattle.sal_ast.specs.declared.statement.Stage.TheOpen.{Stage-F, Stmt-F, Chain-F}
+use Rattle.sal_ast.specs.declared.statement.Stage.TheOpen.{Stmt-F}
 use Rattle.sal_ast.specs.declared.statement.Stage.TheFolds.{map-Stmt, fold-Stage, fold-Chain, fold-roll-Stmt}
 use Rattle.sal_types.specs.Endings as ends
 use Rattle.sal_types.specs.Endings.{surely_ends}
@@ -17,14 +16,14 @@ use Rattle.sal_handler.specs.declared.state.EnclosingJoin.{EnclosingJoin}
 use Rattle.sal_handler.specs.declared.state.Flow.{Flow}
 use Rattle.sal_handler.specs.declared.state.Flow.TheVariants.{Next, Returned, Passed}
 use Rattle.sal_handler.specs.declared.state.State.{State}
-use Rattle.sal_handler.specs.Evaluation.{OrTrap, and_then, Eval, ◌>>=◌, ◌>>◌, pure}
+use Rattle.sal_handler.specs.Evaluation.{OrTrap, and_then, Eval, pure}
 use Rattle.sal_handler.specs.Scopes.{Context, keep_locals, in_new_scope}
 use Rattle.sal_handler.specs.Statements as t
 use Rattle.sal_handler.specs.Statements.{StageWithTree, StmtWithTree, ChainWithTree, StageDenotation, stage_step, stmt_step, chain_step, stmt_denotation, stmt_with_tree, tree_of, denotation_of, exec, exec_block}
 use Rattle.sal_handler.specs.WellFormed.{EachOf}
 use Rattle.sal_handler.proofs.After.{After, then_after, after_is}
 use Rattle.sal_handler.proofs.Executions.{parts}
-use Rattle.sal_handler.proofs.Induction.{IfAny, OfStage, OfStmt, of_stmt}
+use Rattle.sal_handler.proofs.Induction.{OfStmt, of_stmt}
 use Rattle.sal_soundness.specs.Laws.{BodiesThatEndReturn}
 
 -- ---- how parts end

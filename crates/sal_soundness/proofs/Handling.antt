@@ -1,5 +1,5 @@
 -- What the handlers of an accepted program leave is typed.
-use Rattle.std.proofs.Common.{◌≡◌, ◌⊎◌, inl, inr, ℕ, zero, suc, ◌+◌, ◌<◌, ◌≤◌, Bool, true, false, ◌&&◌, if◌then◌else◌, nat_eq, List, [], ◌∷◌, length, map, Option, Some, None, Ok, Err, refl, sym, ap, subst, ◌∙◌, arith}
+use Rattle.std.proofs.Common.{◌≡◌, inl, inr, ℕ, zero, suc, ◌≤◌, Bool, true, false, if◌then◌else◌, nat_eq, List, [], ◌∷◌, length, map, Option, Some, None, Ok, Err, refl, sym, ap, subst, ◌∙◌, arith}
 use Rattle.std.specs.Prelude.{slice_get, nat_lt, is_some}
 use Rattle.std.proofs.lemmas.Bool.{eqb-true}
 use Rattle.sal_value.specs.declared.name.Name.TheVariants as name
@@ -46,14 +46,13 @@ use Rattle.sal_handler.specs.Fits.{fits_sort, fit_sorts, sorts_of}
 use Rattle.sal_handler.specs.Handler as h
 use Rattle.sal_handler.specs.Statements.{exec_block}
 use Rattle.sal_handler.specs.WellFormed.{EachOf, Legal, IsLegalPiece, IsSoundCall, IsWellFormed, program_sizes}
-use Rattle.sal_handler.proofs.Addresses.{each_more}
-use Rattle.sal_handler.proofs.After.{After, after_both}
+use Rattle.sal_handler.proofs.After.{After}
 use Rattle.sal_handler.proofs.FairCalls.{handlers_fair}
 use Rattle.sal_effects.proofs.Spelling.{CreationIsSpelled, creations_spelled}
 use Rattle.sal_fitting.specs.Handlers.{IsCalled, IsTypedCall, IsAnswer, IsTypedActor, IsTypedCreation, OwesNew, AreTyped, HandlersKeepTypes}
 use Rattle.sal_fitting.specs.Messages.{IsTypedMessage}
 use Rattle.sal_fitting.specs.Programs.{or_void, signature_of, signature_in, signatures, field_sorts}
-use Rattle.sal_fitting.specs.Signatures.{void_sort, migrate_signature, are_of_sorts, fits_sorts}
+use Rattle.sal_fitting.specs.Signatures.{fits_sorts}
 use Rattle.sal_fitting.proofs.Migrating.{migrate_typed}
 use Rattle.sal_fitting.proofs.Pieces.{null_void, split}
 use Rattle.sal_preservation.specs.States.{AreFields}

@@ -1,35 +1,23 @@
 -- What belongs and is legal fits.
-use Rattle.std.proofs.Common.{◌≡◌, ℕ, Bool, true, false, if◌then◌else◌, nat_eq, List, [], ◌∷◌, map, Option, Some, None, Err, refl, sym, subst, ◌⊎◌, inl, inr, ◌&&◌, ◌∙◌}
-use Rattle.std.specs.Prelude.{nat_lt, slice_get}
-use Rattle.std.specs.Option.{option_map}
-use Rattle.std.proofs.lemmas.Bool.{eq-eqb}
-use Rattle.sal_value.specs.declared.name.Ual.{Ual}
-use Rattle.sal_value.specs.Names.{ual_of}
+use Rattle.std.proofs.Common.{◌≡◌, ℕ, true, List, [], ◌∷◌, map, Option, Some, None, refl, sym, subst, inl, inr, ◌&&◌, ◌∙◌}
 use Rattle.sal_value.specs.declared.value.Sort.{Sort}
 use Rattle.sal_value.specs.declared.value.Value.{Value}
 use Rattle.sal_value.specs.Membership.{belongs}
 use Rattle.sal_value.specs.Spelling.{is_legal}
 use Rattle.sal_ast.specs.declared.program.Behavior.{Behavior}
-use Rattle.sal_ast.specs.declared.program.Program.{Program}
 use Rattle.sal_ast.specs.Members.{Field, fields_of}
-use Rattle.sal_ast.specs.Sorts.{Scope, fields_in, type_sort}
+use Rattle.sal_ast.specs.Sorts.{fields_in, type_sort}
 use Rattle.sal_mail.specs.declared.message.Piece.{Piece}
 use Rattle.sal_mail.specs.declared.message.Piece.TheVariants.{Known, Token}
 use Rattle.sal_mail.specs.declared.message.Target.{Target}
 use Rattle.sal_mail.specs.declared.message.Target.TheVariants as target
 use Rattle.sal_mail.specs.declared.message.Message.{Message}
-use Rattle.sal_mail.specs.declared.effects.Effects.{Effects}
-use Rattle.sal_mail.specs.declared.fault.Trap.TheVariants.{TooManyMessages}
-use Rattle.sal_handler.specs.declared.turn.Outcome.TheVariants.{Done}
-use Rattle.sal_handler.specs.Calls.{Call}
-use Rattle.sal_handler.specs.Handler as h
 use Rattle.sal_handler.specs.Scopes.{Context}
 use Rattle.sal_handler.specs.Fits.{fits_sort, sorts_of}
 use Rattle.sal_handler.specs.WellFormed.{EachOf, Legal, IsLegalPiece}
-use Rattle.sal_fitting.specs.Handlers.{IsTypedCall, AreTyped}
 use Rattle.sal_fitting.specs.Messages.{is_printable_form, is_printable, ArePieces, ArePrintable, IsTypedCallTo, IsTypedTo, IsTypedMessage}
-use Rattle.sal_fitting.specs.Programs.{field_sorts, signatures}
-use Rattle.sal_fitting.specs.Signatures.{Signatures, migrate_signature, are_of_sorts, fits_sorts}
+use Rattle.sal_fitting.specs.Programs.{field_sorts}
+use Rattle.sal_fitting.specs.Signatures.{Signatures, are_of_sorts, fits_sorts}
 use Rattle.sal_types.specs.Signatures.{cons_some, all_some}
 use Rattle.sal_types.specs.declared.signature.Signature.{Signature}
 use Rattle.sal_value.specs.declared.value.Base.{Base}
@@ -38,7 +26,7 @@ use Rattle.sal_value.specs.declared.value.Value.{out-Value}
 use Rattle.sal_value.specs.declared.value.Value.TheOpen.{Value-F}
 use Rattle.sal_value.specs.Membership.{belongs_alone, belongs_to}
 use Rattle.sal_value.proofs.Equations.{belongs_zero}
-use Rattle.sal_fitting.proofs.Pieces.{both, split, null_void}
+use Rattle.sal_fitting.proofs.Pieces.{both, split}
 use Rattle.sal_preservation.specs.States.{AreFields}
 use Rattle.sal_soundness.proofs.Sending.{Sorts, PrintedSort, PrintsMade, AreMade, CallMade, MadeTo, MessageMade, WaitsIn, OwesIn}
 

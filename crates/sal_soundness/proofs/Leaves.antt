@@ -1,13 +1,12 @@
 -- What typing gives of declarations, assignments and `return`.
-use Rattle.std.proofs.Common.{◌≡◌, ◌⊎◌, inl, inr, ℕ, ◌+◌, ◌-◌, ◌<◌, ◌≤◌, Bool, true, false, not, ◌&&◌, if◌then◌else◌, List, [], ◌∷◌, ◌++◌, length, map, Option, Some, None, option_map, refl, sym, ap, subst, ◌∙◌, arith, rules}
+use Rattle.std.proofs.Common.{◌≡◌, ℕ, ◌+◌, ◌-◌, ◌≤◌, Bool, true, false, not, if◌then◌else◌, List, [], ◌∷◌, length, Option, Some, None, refl, sym, ap, subst, ◌∙◌, arith, rules}
 use Rattle.std.specs.List.{list_all}
-use Rattle.std.proofs.lemmas.Bool.{and_parts, not-true, ltb-true, and_right, ne_eqb}
+use Rattle.std.proofs.lemmas.Bool.{and_parts}
 use Rattle.sal_value.specs.declared.value.Base.{Base as MeantBase}
 use Rattle.sal_value.specs.declared.value.Sort.{Sort as MeantSort}
 use Rattle.sal_value.specs.declared.value.Value.{Value}
 use Rattle.sal_value.specs.declared.value.Value.TheVariants.{Null}
 use Rattle.sal_value.proofs.Tables.{some_is}
-use Rattle.sal_ast.specs.declared.program.Behavior.{Behavior}
 use Rattle.sal_ast.specs.declared.program.Ident.{Ident}
 use Rattle.sal_ast.specs.declared.program.Program.{Program}
 use Rattle.sal_ast.specs.declared.expression.Expr.{Expr, out-Expr, the_lemmas}
@@ -22,21 +21,21 @@ use Rattle.sal_ast.specs.declared.statement.Declare.{Declare}
 use Rattle.sal_ast.specs.Regular as regular
 use Rattle.sal_ast.specs.Regular.{Shape, RankedOperand, expr_is_regular, option_is_regular, assign_is_regular}
 use Rattle.sal_ast.specs.Sorts.{Scope, sort_with, type_sort}
-use Rattle.sal_sorts.specs.declared.sort.Base.TheVariants.{Int, Void}
+use Rattle.sal_sorts.specs.declared.sort.Base.TheVariants.{Int}
 use Rattle.sal_sorts.specs.declared.sort.Sort.{Sort}
 use Rattle.sal_sorts.specs.declared.variable.Variable.{Variable}
-use Rattle.sal_sorts.specs.Sorts.{plain, is_void_sort, is_same_sort, array_sort, sort_below, sort_of_type}
-use Rattle.sal_sorts.specs.Environments.{Environment, field_with_name, variable_with_name, with_variable, new_variable}
+use Rattle.sal_sorts.specs.Sorts.{plain, sort_below, sort_of_type}
+use Rattle.sal_sorts.specs.Environments.{Environment, field_with_name, variable_with_name}
 use Rattle.sal_sorts.specs.Expressions.{ExprTyping, token_rules, variable_verdict, expr_verdict}
-use Rattle.sal_sorts.specs.Verdicts.{Verdict, Good, good_unless}
+use Rattle.sal_sorts.specs.Verdicts.{Good, good_unless}
 use Rattle.sal_types.specs.declared.signature.Signature.{Signature}
 use Rattle.sal_types.specs.Programs.{IsTyped}
-use Rattle.sal_typing.specs.Numbers.{number_base, number_sort, number_variable, scope_of}
-use Rattle.sal_typing.specs.Known.{Each, IsReplySort, IsKnown}
+use Rattle.sal_typing.specs.Numbers.{number_base, number_sort, scope_of}
+use Rattle.sal_typing.specs.Known.{Each, IsKnown}
 use Rattle.sal_typing.specs.Parts.{HasSort}
-use Rattle.sal_typing.specs.StatementParts.{ValueParts, DeclareParts, assigned_variable, AssignParts, ReturnParts}
+use Rattle.sal_typing.specs.StatementParts.{ValueParts, DeclareParts, AssignParts, ReturnParts}
 use Rattle.sal_typing.proofs.Numbering.{number_of_type, sort_parts, dims_valid}
-use Rattle.sal_typing.proofs.Expressions.{have_sorts, type_parts}
+use Rattle.sal_typing.proofs.Expressions.{type_parts}
 use Rattle.sal_typing.proofs.ExpressionParts.{verdict_of_form, verdict_is}
 use Rattle.sal_typing.proofs.Fitting.{assignable_fits}
 use Rattle.sal_handler.specs.Scopes.{Context}
@@ -44,13 +43,10 @@ use Rattle.sal_handler.specs.Values.{default_of}
 use Rattle.sal_fitting.specs.Programs.{signatures}
 use Rattle.sal_fitting.specs.Signatures.{void_sort}
 use Rattle.sal_fitting.proofs.Pieces.{null_void}
-use Rattle.sal_preservation.proofs.Judged as j
-use Rattle.sal_preservation.proofs.Judged.{Assignable}
 use Rattle.sal_preservation.proofs.Judging as judging
-use Rattle.sal_preservation.proofs.Reaching.{reaches}
 use Rattle.sal_preservation.proofs.Expressions.{Belongs}
 use Rattle.sal_preservation.proofs.Values.{default_is}
-use Rattle.sal_soundness.proofs.Anywhere.{Judgement, Can}
+use Rattle.sal_soundness.proofs.Anywhere.{Can}
 use Rattle.sal_soundness.proofs.Executing as executing
 use Rattle.sal_soundness.proofs.Assigning as assigning
 use Rattle.sal_soundness.proofs.Sends as sends
@@ -102,9 +98,6 @@ below_is o b d e low = ap (λ z. sort_with z d) e ∙ dims_valid b d low
 module _ (p : Program) (typed : IsTyped p) (g : Signature) (from : ℕ) (env : Environment) (mine : ℕ) (known : IsKnown env mine) (same : env.behaviors ≡ p.behaviors) (r : Context) (can : Can p.behaviors r) (item : Option MeantSort) where
   abbrev First : Option Expr → Value → MeantSort → Type 0
   First o start u = executing.FirstOf p.behaviors (signatures p) g from r item can o start (scope_of env mine) u
-
-  regular_value : (e : Expr) → option_is_regular (Some e) ≡ true → expr_is_regular e ≡ true
-  regular_value e h = h
 
   first_of : (o : Option Expr) (start : Value) (to : Sort) (u : MeantSort) → option_is_regular o ≡ true → ValueParts o env to → number_sort to env.behaviors ≡ Some u → Belongs u start → First o start u
   first_of None start to u regular h is b = b

@@ -1,7 +1,7 @@
 -- The constructors and initialisers of an accepted program make fields of their types, and parameters hold arguments of theirs.
-use Rattle.std.proofs.Common.{◌≡◌, inl, inr, ℕ, zero, suc, ◌+◌, ◌<◌, ◌≤◌, Bool, true, false, ◌&&◌, cond, if◌then◌else◌, List, [], ◌∷◌, ◌++◌, length, map, filter_map, Option, Some, None, Ok, Err, refl, sym, ap, subst, ◌∙◌, append_assoc, arith}
+use Rattle.std.proofs.Common.{◌≡◌, ℕ, suc, ◌+◌, Bool, true, false, if◌then◌else◌, List, [], ◌∷◌, ◌++◌, map, filter_map, Option, Some, None, Ok, Err, refl, sym, ap, subst, ◌∙◌, append_assoc, arith}
 use Rattle.std.specs.Prelude.{slice_get, slice_set, nat_lt}
-use Rattle.std.specs.List.{list_all, find, position, position_or_len}
+use Rattle.std.specs.List.{list_all, find, position_or_len}
 use Rattle.std.specs.Str.{bytes_eq}
 use Rattle.std.proofs.lemmas.Bool.{and_parts}
 use Rattle.sal_value.specs.declared.value.Sort.{Sort as MeantSort}
@@ -20,7 +20,6 @@ use Rattle.sal_ast.specs.Members.{Field, Handler, as_field, as_handler, as_const
 use Rattle.sal_ast.specs.Regular.{has_any, option_is_regular, block_is_regular, member_is_regular, behavior_is_regular, is_regular}
 use Rattle.sal_ast.specs.Sorts.{fields_in, type_sort}
 use Rattle.sal_sorts.specs.declared.sort.Base.TheVariants.{Void}
-use Rattle.sal_sorts.specs.declared.sort.Sort.{Sort}
 use Rattle.sal_sorts.specs.declared.variable.Variable.{Variable}
 use Rattle.sal_sorts.specs.declared.variable.MemberKind.TheVariants as kind
 use Rattle.sal_sorts.specs.Sorts.{plain, sort_of_type}
@@ -29,7 +28,7 @@ use Rattle.sal_types.specs.declared.signature.Signature.{Signature}
 use Rattle.sal_types.specs.Programs.{IsAccepted}
 use Rattle.sal_typing.specs.Numbers.{number_sort, number_variable, scope_of}
 use Rattle.sal_typing.specs.Known.{Each, IsThere, IsKnownVariable, IsKnown}
-use Rattle.sal_typing.specs.Members.{with_params, environment_of, BodyIsTyped, FieldIsTyped}
+use Rattle.sal_typing.specs.Members.{with_params, environment_of}
 use Rattle.sal_typing.specs.StatementParts.{SequenceParts, ValueParts}
 use Rattle.sal_typing.proofs.Finding.{each_at, position_of, no_position, stands_first}
 use Rattle.sal_typing.proofs.Fitting.{assignable_fits}
@@ -37,15 +36,13 @@ use Rattle.sal_typing.proofs.Numbering.{number_of_type}
 use Rattle.sal_typing.proofs.Expressions.{type_parts}
 use Rattle.sal_typing.proofs.Members.{each_kept, programs_have_parts}
 use Rattle.sal_handler.specs.declared.state.Content.TheVariants as held
-use Rattle.sal_handler.specs.declared.state.Flow.{Flow}
 use Rattle.sal_handler.specs.declared.state.Local.{Local}
 use Rattle.sal_handler.specs.declared.state.State.{State}
-use Rattle.sal_handler.specs.Evaluation.{OrTrap, and_then, ◌>>=◌, ◌>>◌, pure}
+use Rattle.sal_handler.specs.Evaluation.{OrTrap, and_then}
 use Rattle.sal_handler.specs.Expressions.{eval}
 use Rattle.sal_handler.specs.Handler as h
 use Rattle.sal_handler.specs.Scopes as c
 use Rattle.sal_handler.specs.Scopes.{Context, variable_of}
-use Rattle.sal_handler.specs.Values.{default_of}
 use Rattle.sal_handler.specs.WellFormed.{EachOf}
 use Rattle.sal_handler.proofs.After.{After, then_after, after_more}
 use Rattle.sal_fitting.specs.Programs.{signatures}
@@ -203,17 +200,8 @@ no_result = record { params = []; result = void_sort }
 
 module _ (p : Program) (a : IsAccepted p) where
   module _ (n : ℕ) (b : Behavior) (is : slice_get p.behaviors n ≡ Some b) where
-    abbrev r : Context
-    r = h.constructor_context p.behaviors n
-
     can : Can p.behaviors (h.constructor_context p.behaviors n)
     can = (tt, refl)
-
-    abbrev env : Environment
-    env = environment_of p b kind.Initialiser (plain Void)
-
-    abbrev Has_ : List Value → Type 0
-    Has_ vs = HasFields p.behaviors n vs
 
     field_known : (k : ℕ) (f : Field) → slice_get (fields_of b) k ≡ Some f → IsThere (type_sort f.sort p.behaviors)
     field_known k f e = let t = ((programs_have_parts p a.typed).behaviors n b is).fields k f e in (type_parts f.sort (environment_of p b kind.Initialiser (plain Void)) (sort_of_type f.sort) t.known.few t.written).1
@@ -275,7 +263,6 @@ module _ (p : Program) (a : IsAccepted p) where
     constructed : (o : Option Handler) → constructor_of b ≡ o → (args vs fields : List Value) → ParamsFit o args → HasFields p.behaviors n vs → h.fields_after_constructor o args (h.constructor_context p.behaviors n) vs ≡ Ok fields → HasFields p.behaviors n fields
     constructed None at args vs fields fit has e = let same : vs ≡ fields = cc in subst (HasFields p.behaviors n) same has
     constructed (Some q) at args vs fields fit has e =
-        let around : Environment = environment_of p b kind.Constructor (plain Void) in
         let body = ((programs_have_parts p a.typed).behaviors n b is).constructors q at in
         let w = with_params_is q.params (environment_of p b kind.Constructor (plain Void)) in
         let stands : statements.Stands p a.typed no_result 0 (params_environment (environment_of p b kind.Constructor (plain Void)) q.params) n (h.constructor_context p.behaviors n) = record {

@@ -58,7 +58,7 @@ use Rattle.sal_fitting.proofs.Giving.{join_more}
 use Rattle.sal_preservation.proofs.Judged.{Kind, Assignable, int, boolean, text}
 use Rattle.sal_fitting.proofs.Pieces.{both, split}
 use Rattle.sal_preservation.specs.States.{IsOf as Has}
-use Rattle.sal_preservation.proofs.Expressions.{Belongs, Sits, Went, Keeps}
+use Rattle.sal_preservation.proofs.Expressions.{Belongs, Sits, Went}
 use Rattle.sal_soundness.proofs.Anywhere as anywhere
 use Rattle.sal_soundness.proofs.Anywhere.{HasFields, Judgement, Can}
 

@@ -31,13 +31,12 @@ use Rattle.sal_sorts.specs.declared.sort.Sort.{Sort}
 use Rattle.sal_sorts.specs.declared.variable.Variable.{Variable}
 use Rattle.sal_sorts.specs.Sorts.{plain, is_text_sort, is_int_sort, is_boolean_sort, is_printable_sort}
 use Rattle.sal_mail.specs.declared.constants.TheConstants.{PRINT, PRINTLN}
-use Rattle.sal_sorts.specs.Environments.{Environment, local_with_name, variable_with_name, or_else, field_in_scope, are_assignable}
-use Rattle.sal_sorts.specs.Expressions.{expr_verdict}
+use Rattle.sal_sorts.specs.Environments.{Environment, local_with_name, variable_with_name, or_else, field_in_scope}
 use Rattle.sal_types.specs.declared.signature.Signature.{Signature}
 use Rattle.sal_types.specs.Programs.{IsTyped}
 use Rattle.sal_typing.specs.Numbers.{number_base, number_sort, number_variable, scope_of}
-use Rattle.sal_typing.specs.Known.{Each, IsReplySort, IsValueSort, IsSortInScope, IsKnownVariable, IsKnown}
-use Rattle.sal_typing.specs.Parts.{Pairwise, HasSort, ExprParts, IsTokenOf, ArgParts, PropertyParts, IsCall, AimParts, MessageParts}
+use Rattle.sal_typing.specs.Known.{Each, IsReplySort, IsSortInScope, IsKnownVariable, IsKnown}
+use Rattle.sal_typing.specs.Parts.{Pairwise, HasSort, ExprParts, ArgParts, PropertyParts, AimParts, MessageParts}
 use Rattle.sal_typing.specs.Fitting.{Fits}
 use Rattle.sal_typing.proofs.Expressions.{have_sorts}
 use Rattle.sal_typing.proofs.ExpressionParts.{same_sort_is, have_parts}
@@ -47,12 +46,12 @@ use Rattle.sal_handler.specs.Messages.{name_alone, aim_handler_id, actor_handler
 use Rattle.sal_handler.specs.Scopes.{Context}
 use Rattle.sal_fitting.specs.Signatures.{signature_at, void_sort}
 use Rattle.sal_fitting.specs.Programs.{signatures}
-use Rattle.sal_preservation.proofs.Judged.{Kind, Assignable, actor, int, boolean, text}
-use Rattle.sal_preservation.proofs.Reaching.{NoNull, actor_kind, null_kind, int_kind, boolean_kind, text_kind, reaches}
+use Rattle.sal_preservation.proofs.Judged.{Kind, Assignable, int, boolean, text}
+use Rattle.sal_preservation.proofs.Reaching.{NoNull, actor_kind, int_kind, boolean_kind, text_kind, reaches}
 use Rattle.sal_soundness.proofs.Anywhere.{Judgement, Can}
 use Rattle.sal_soundness.proofs.Sending as sending
 use Rattle.sal_soundness.proofs.Sending.{PrintedSort, PrintedSorts, tok_in, tok_at, tokens_of}
-use Rattle.sal_soundness.proofs.Signing.{Numbers, call_addressed}
+use Rattle.sal_soundness.proofs.Signing.{call_addressed}
 
 -- ---- lists
 

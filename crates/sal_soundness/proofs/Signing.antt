@@ -22,13 +22,12 @@ use Rattle.sal_types.specs.Signatures as types
 use Rattle.sal_types.specs.Signatures.{with_behavior, numbers_by_name, all_some, signature_with}
 use Rattle.sal_typing.specs.Numbers.{number_sort}
 use Rattle.sal_typing.specs.Parts.{Pairwise, IsCall}
-use Rattle.sal_typing.specs.Calls.{HasSignature}
 use Rattle.sal_typing.proofs.Calls.{calls_have_signatures}
 use Rattle.sal_handler.specs.Fits as fits
 use Rattle.sal_handler.specs.Fits.{sorts_of}
 use Rattle.sal_handler.specs.Messages.{or_no_number, actor_handler_id}
 use Rattle.sal_handler.specs.Scopes.{Context}
-use Rattle.sal_fitting.specs.Signatures.{Signatures, migrate_signature, signature_at}
+use Rattle.sal_fitting.specs.Signatures.{migrate_signature, signature_at}
 use Rattle.sal_fitting.specs.Programs.{or_void, signature_of, signature_in, signatures}
 
 valid : (o : Option ℕ) (n : ℕ) → valid_number o ≡ Some n → n < RESERVED

@@ -1,9 +1,8 @@
 -- In a typed program each statement, stage and chain keeps the state typed.
-use Rattle.std.proofs.Common.{◌≡◌, inl, inr, ℕ, ◌+◌, ◌<◌, ◌≤◌, Bool, true, false, not, ◌&&◌, cond, if◌then◌else◌, nat_lt, List, [], ◌∷◌, ◌++◌, map, Option, Some, None, option_map, refl, sym, ap, subst, ◌∙◌, arith}
+use Rattle.std.proofs.Common.{◌≡◌, inl, inr, ℕ, ◌+◌, ◌<◌, ◌≤◌, Bool, true, false, not, ◌&&◌, cond, nat_lt, List, [], ◌∷◌, ◌++◌, map, Option, Some, None, option_map, refl, sym, ap, subst, ◌∙◌, arith}
 use Rattle.std.specs.List.{list_all}
 use Rattle.std.proofs.lemmas.Bool.{and_parts, not-true, ltb-true, and_right, ne_eqb}
 use Rattle.sal_value.specs.declared.value.Sort.{Sort as MeantSort}
-use Rattle.sal_value.specs.declared.value.Value.TheVariants.{Null}
 use Rattle.sal_value.proofs.Tables.{some_is}
 use Rattle.sal_ast.specs.declared.program.Program.{Program}
 use Rattle.sal_ast.specs.declared.program.Ident.{Ident}
@@ -33,24 +32,22 @@ use Rattle.sal_types.specs.declared.signature.Signature.{Signature}
 use Rattle.sal_types.specs.Programs.{IsTyped}
 use Rattle.sal_types.specs.Statements as typing
 use Rattle.sal_types.specs.Statements.{StmtTyping, StageWithStart, no_results, statement_rules, free_rules, leave_rules, sequence_verdict, fits_join, join_rules, join_environment, stages_verdict, chain_start, sort_or_void, continuation_rules, for_init_typing, stmt_typing, stage_typing, chain_typing}
-use Rattle.sal_typing.specs.Numbers.{number_base, number_sort, number_variable, scope_of}
+use Rattle.sal_typing.specs.Numbers.{number_base, number_sort, scope_of}
 use Rattle.sal_typing.specs.Known.{Each, IsReplySort, IsKnown}
 use Rattle.sal_typing.specs.Parts.{HasSort, HasSortIfAny}
-use Rattle.sal_typing.specs.StatementParts.{HasResults, after_stmt, after_init, SequenceParts, StageHasSort, AssignParts, InitParts, NextParts, ElseParts, JoinParts, StmtParts}
+use Rattle.sal_typing.specs.StatementParts.{HasResults, after_stmt, after_init, SequenceParts, StageHasSort, AssignParts, InitParts, NextParts}
 use Rattle.sal_typing.proofs.Inverting.{good_is, node_parts, bind_parts, rule_holds, none_right}
-use Rattle.sal_typing.proofs.Numbering.{number_of_type, sort_parts, dims_valid}
-use Rattle.sal_typing.proofs.Expressions.{have_sorts}
+use Rattle.sal_typing.proofs.Numbering.{number_of_type, sort_parts}
 use Rattle.sal_typing.proofs.ExpressionParts.{same_sort_is}
 use Rattle.sal_typing.proofs.Finding.{each_join}
 use Rattle.sal_typing.proofs.Messages as messages
 use Rattle.sal_typing.proofs.Scopes.{known_in_join, scope_with}
 use Rattle.sal_typing.proofs.Statements.{keep_scopes, void_joins, init_stays}
-use Rattle.sal_typing.proofs.StatementParts.{sequence_parts, typed_form, form_parts, typed_stage, stage_form_parts}
+use Rattle.sal_typing.proofs.StatementParts.{sequence_parts, typed_form, form_parts, typed_stage}
 use Rattle.sal_handler.specs.declared.state.EnclosingJoin.{EnclosingJoin}
 use Rattle.sal_handler.specs.declared.state.Flow.{Flow}
 use Rattle.sal_handler.specs.declared.state.State.{State}
 use Rattle.sal_handler.specs.Evaluation.{Eval}
-use Rattle.sal_handler.specs.Expressions.{eval}
 use Rattle.sal_handler.specs.Scopes.{Context}
 use Rattle.sal_handler.specs.Scopes as c
 use Rattle.sal_handler.specs.Messages.{message}
@@ -59,11 +56,10 @@ use Rattle.sal_handler.specs.Statements.{StageWithTree, StmtWithTree, ChainWithT
 use Rattle.sal_handler.specs.WellFormed.{EachOf}
 use Rattle.sal_handler.proofs.After.{After, after_more}
 use Rattle.sal_handler.proofs.Executions.{parts}
-use Rattle.sal_handler.proofs.Induction.{IfAny, OfStage, OfStmt, of_stmt}
+use Rattle.sal_handler.proofs.Induction.{OfStage, OfStmt, of_stmt}
 use Rattle.sal_fitting.specs.Programs.{signatures}
 use Rattle.sal_fitting.specs.Messages.{join_sort}
 use Rattle.sal_fitting.specs.Signatures.{void_sort}
-use Rattle.sal_preservation.proofs.Expressions.{Belongs}
 use Rattle.sal_soundness.proofs.Anywhere.{Can}
 use Rattle.sal_soundness.proofs.Sending as sending
 use Rattle.sal_soundness.proofs.Sending.{FlowOk}
@@ -194,9 +190,16 @@ module _ (p : Program) (typed : IsTyped p) (g : Signature) (from : ℕ) where
       let all : Fitting r item (h.0 ++ h.1) = subst (Fitting r item) (sym h.4) fits in
       let P : Sort → Type 0 = λ s. (u : MeantSort) → num s ≡ Some u → TakenBy r.within item u in
       let after = (keep_scopes env mine a.known q.0 both.0 h.0 h.2).after in
-      let next : Environment = after_stmt env q.0 in
-      (scope_of next mine, (tokens next, (each.0 env mine r item a can h.0 h.2 both.0 (each_left P h.0 h.1 all),
-      sequence_of list each.1 next mine r item (stands_with env mine r (stmt_typing q.0 env).0 a after) can h.1 h.3 both.1 (each_right P h.0 h.1 all))))
+      let next : Environment = after_stmt env q.0 in (
+        scope_of next mine,
+        (
+          tokens next,
+          (
+            each.0 env mine r item a can h.0 h.2 both.0 (each_left P h.0 h.1 all),
+            sequence_of list each.1 next mine r item (stands_with env mine r (stmt_typing q.0 env).0 a after) can h.1 h.3 both.1 (each_right P h.0 h.1 all),
+          ),
+        ),
+      )
 
   -- the results of statements one after another are known
   replies_of : (list : List Stmt) (env : Environment) (mine : ℕ) → IsKnown env mine → (rs : List Sort) → SequenceParts list env rs → all_forms_regular (map form_of list) ≡ true → env.behaviors ≡ p.behaviors → Each (λ s. IsReplySort s p.behaviors) rs

@@ -3,4 +3,7 @@
 
 mod law;
 
-pub use law::{bodies_that_end_return, constructors_make_fields, handlers_keep_types, programs_begin_typed, runs_fit};
+pub use law::{
+    bodies_that_end_return, constructors_make_fields, handlers_keep_types, programs_begin_typed,
+    runs_fit,
+};
