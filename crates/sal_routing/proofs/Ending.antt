@@ -31,6 +31,7 @@ use Rattle.sal_routing.specs.declared.item.Item.TheVariants.{Call, Answer}
 use Rattle.sal_routing.specs.State.{Desk, envelope_of, parcel_to, send, tell_answer}
 use Rattle.sal_routing.specs.Fits.{fits_call, fits_print}
 use Rattle.sal_routing.specs.Routing.{next_hop, was_asked, awaited, put_question, ask, ask_if_new, ask_first, put_held, hold, send_by, send_on, put_delayed, ready_if, call_to, route_to, route_call, call_made, answer_made, released_items, with_book, enter_book, answer_to, give_owner, route_answer, route_item, route_front, route_one, route_many, held_back, items_left, route}
+use Rattle.sal_routing.specs.Laws.{RoutingGoesByItems}
 
 -- ---- lists
 
@@ -259,3 +260,6 @@ next_of p (suc n) d is less = enough p n (items_left (route_one p d)) (route_one
 pub route_next : (p : Meaning) (i : Item) (items : List Item) (d : Desk) → d.work ≡ i ∷ items → route p d ≡ route p (route_item p i (record d { work = items }))
 unfolding route
 route_next p i items d e = next_of p (items_left d) d refl (one_falls p i items d e) ∙ ap (route p) (one_next p i items d e)
+
+pub by_items : RoutingGoesByItems
+by_items = record { done = route_done; next = route_next; falls = route_falls }

@@ -1,1 +1,4 @@
+pub mod Clocks
 pub mod Ending
+pub mod Nodes
+pub mod Quiet
