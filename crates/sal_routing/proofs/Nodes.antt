@@ -80,6 +80,10 @@ first-node (name.Uan u) d = new-node (service_of d.theatre.plan u) u d
 first-node (name.Anon theatre number) d = refl
 first-node (name.Outside number) d = refl
 
+pub put_held-node : (n : Name) (i : Item) (d : Desk) → Keeps d (put_held n i d)
+unfolding put_held
+put_held-node n i d = refl
+
 pub hold-node : (n : Name) (i : Item) (d : Desk) → Keeps d (hold n i d)
 unfolding hold put_held
 hold-node n i d = first-node n (put_held n i d)
@@ -306,7 +310,7 @@ name_taken-node : (x : Pending) (d : Desk) → Keeps d (name_taken x d)
 unfolding name_taken
 name_taken-node x d = refl
 
-drop_pending-node : (maker : Name) (serial : ℕ) (d : Desk) → Keeps d (drop_pending maker serial d)
+pub drop_pending-node : (maker : Name) (serial : ℕ) (d : Desk) → Keeps d (drop_pending maker serial d)
 unfolding drop_pending
 drop_pending-node maker serial d = refl
 
