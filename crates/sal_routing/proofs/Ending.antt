@@ -261,5 +261,18 @@ pub route_next : (p : Meaning) (i : Item) (items : List Item) (d : Desk) → d.w
 unfolding route
 route_next p i items d e = next_of p (items_left d) d refl (one_falls p i items d e) ∙ ap (route p) (one_next p i items d e)
 
+-- ---- for a loop that takes the first item and routes it
+
+-- from the desk before, the one without the item, and the one after it
+pub route_taken : (p : Meaning) (i : Item) (before without after : Desk) → before.work ≡ i ∷ without.work → without ≡ record before { work = without.work } → after ≡ route_item p i without
+    → route p before ≡ route p after
+route_taken p i before without after e is routed =
+    route_next p i without.work before e ∙ (ap (λ x. route p (route_item p i x)) (sym is) ∙ sym (ap (route p) routed))
+
+pub taken_falls : (p : Meaning) (i : Item) (before without after : Desk) → before.work ≡ i ∷ without.work → without ≡ record before { work = without.work } → after ≡ route_item p i without
+    → items_left after < items_left before
+taken_falls p i before without after e is routed =
+    omega (arith, route_falls p i without.work before e, ap items_left routed, ap (λ x. items_left (route_item p i x)) is)
+
 pub by_items : RoutingGoesByItems
 by_items = record { done = route_done; next = route_next; falls = route_falls }
