@@ -274,5 +274,10 @@ pub taken_falls : (p : Meaning) (i : Item) (before without after : Desk) → bef
 taken_falls p i before without after e is routed =
     omega (arith, route_falls p i without.work before e, ap items_left routed, ap (λ x. items_left (route_item p i x)) is)
 
+-- and where there is no first item: the whole list was routed to this desk
+pub route_emptied : (p : Meaning) (before after whole : Desk) → before.work ≡ [] → before.work ≡ after.work → after ≡ record before { work = after.work } → route p before ≡ whole → after ≡ whole
+route_emptied p before after whole none same is routed =
+    is ∙ (ap (λ items. record before { work = items }) (sym same) ∙ (sym (route_done p before none) ∙ routed))
+
 pub by_items : RoutingGoesByItems
 by_items = record { done = route_done; next = route_next; falls = route_falls }
