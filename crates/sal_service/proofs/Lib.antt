@@ -1,0 +1,4 @@
+pub mod Places
+pub mod Sizes
+pub mod Turns
+pub mod Views

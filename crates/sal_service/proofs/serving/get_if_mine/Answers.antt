@@ -1,0 +1,19 @@
+use Rattle.std.proofs.Common.{◌≡◌, ap, sym, subst, ◌∙◌}
+use Rattle.std.specs.Prelude.{IfOk}
+use Rattle.sal_service.specs.Service.{Answered, is_mine, serve_get}
+use Rattle.sal_service.specs.code.Answering.{after_envelope}
+use Rattle.sal_service.proofs.Turns.{after, mine, not_mine}
+use Rattle.sal_service.proofs.serving.get_if_mine.Goals as goal
+
+pub returns-then-not-is_mine-clause-ok : goal.returns-then-not-is_mine-clause-ok
+returns-then-not-is_mine-clause-ok c =
+    let names = c.args.names.now in
+    c.ignore.ensures
+    ∙ ap (after_envelope c.args.origin.from c.args.origin.acknowledges names c.args.links.now)
+    (not_mine (is_mine c.args.number c.args.plan.now c.args.name) names (serve_get c.args.name names) (sym c.is_mine.ensures ∙ c.if-is_mine.true))
+
+pub returns-clause-ok : goal.returns-clause-ok
+returns-clause-ok c =
+    let names = c.args.names.now in
+    subst (λ (x : Answered). IfOk c.get.result (λ t. after names c.get.new.links t ≡ after_envelope c.args.origin.from c.args.origin.acknowledges names c.args.links.now x))
+    (mine (is_mine c.args.number c.args.plan.now c.args.name) names (serve_get c.args.name names) (sym c.is_mine.ensures ∙ c.if-is_mine.false)) c.get.ensures.ok

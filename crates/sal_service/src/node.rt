@@ -1,0 +1,148 @@
+//! The node of a naming service.
+
+ghost use Rattle.std.specs.Prelude.{◌≡◌, ◌<◌, true, length, IfOk, OnOk, OnErr};
+ghost use Rattle.sal_node.specs.Links.{has_few_nodes};
+ghost use Rattle.sal_service.specs.Service as spec;
+
+use crate::serving;
+use crate::turned::Turned;
+use sal_carriage::Datagram;
+use sal_mail::Plan;
+use sal_naming::{Deleted, Names};
+use sal_node::{FIRST_SERVICE, Links};
+use sal_value::{CloneIn, List, NoMemory, Uan};
+use std::alloc::Global;
+use std::marker::Model;
+
+/// A naming service at its node: its names, and a link to each other node.
+#[derive(Drop)]
+pub struct NameNode {
+    number: u8,
+    plan: Plan,
+    names: Names,
+    links: Links,
+    clock: u64,
+}
+
+impl Model for NameNode {
+    ghost use Rattle.sal_service.specs.Service as service;
+    ghost use Rattle.sal_service.specs.code.Places.{IsGood};
+
+    ghost Value = { service.Service };
+
+    ghost view = { λ n. record { number = n.number; plan = n.plan; names = n.names; links = n.links; clock = n.clock } };
+
+    ghost invariant = { λ n. IsGood n.plan n.names };
+}
+
+impl NameNode {
+    /// The service with this number, counted from 0. The program's hash begins with these bytes.
+    pub fn new(
+        alloc: Global,
+        number: u8,
+        plan: &Plan,
+        program: [u8; 8],
+    ) -> Result<NameNode, NoMemory>
+        requires few { has_few_nodes plan.now ≡ true }
+        requires there { number < length plan.now.names }
+        ensures { IfOk result (λ node. node ≡ spec.new_service program number plan.now) }
+    {
+        let links = Links::new(alloc, program, FIRST_SERVICE + number, plan)?;
+        Ok(NameNode {
+            number,
+            plan: plan.clone_in(alloc)?,
+            names: Names::new(alloc),
+            links,
+            clock: 0,
+        })
+    }
+
+    /// A datagram arrived.
+    pub fn datagram(&mut self, alloc: Global, bytes: &[u8]) -> Result<Turned, NoMemory>
+        ensures ok { IfOk result (λ t. (self.new, t) ≡ spec.service_datagram bytes.now self.old) }
+        ensures err { OnErr result (self.new ≡ self.old) }
+    {
+        serving::datagram(
+            alloc,
+            self.number,
+            &self.plan,
+            &mut self.names,
+            &mut self.links,
+            bytes,
+        )
+    }
+
+    /// The clock shows this many milliseconds; a reading below the last one counts as the last.
+    pub fn clock(&mut self, ms: u64) -> Turned
+        ensures { (self.new, result) ≡ spec.service_clock ms self.old }
+    {
+        let took = self.clock < ms;
+        self.clock = self.clock.max(ms);
+        serving::turned(took)
+    }
+
+    /// What is to be sent now, in the order of the nodes. It counts as sent.
+    pub fn push(&mut self, alloc: Global) -> Result<List<Datagram>, NoMemory>
+        ensures datagrams { IfOk result (λ ds. ds ≡ spec.service_due self.old) }
+        ensures ok { OnOk result (self.new ≡ spec.service_push self.old) }
+        ensures err { OnErr result (self.new ≡ self.old) }
+    {
+        self.links.due(alloc, self.clock)
+    }
+
+    /// Withdraws a name for good.
+    pub fn delete(&mut self, name: &Uan) -> Turned
+        ensures { (self.new, result) ≡ spec.service_delete name.now self.old }
+    {
+        let deleted = self.names.delete(name);
+        serving::turned(is_done(deleted))
+    }
+
+    /// Whether all that was sent is acknowledged, and no acknowledgement is due.
+    #[tactic(auto, unfolding(crate::specs::Service::is_quiet))]
+    pub fn quiet(&self) -> bool
+        ensures { result ≡ spec.is_quiet self.now }
+    {
+        self.links.are_idle()
+    }
+
+    pub fn number(&self) -> u8
+        ensures { result ≡ self.now.number }
+    {
+        self.number
+    }
+
+    pub fn plan(&self) -> &Plan
+        ensures { result.now ≡ self.now.plan }
+    {
+        &self.plan
+    }
+
+    pub fn names(&self) -> &Names
+        ensures { result.now ≡ self.now.names }
+    {
+        &self.names
+    }
+
+    pub fn links(&self) -> &Links
+        ensures { result.now ≡ self.now.links }
+    {
+        &self.links
+    }
+
+    /// The last reading of the clock.
+    pub fn moment(&self) -> u64
+        ensures { result ≡ self.now.clock }
+    {
+        self.clock
+    }
+}
+
+fn is_done(deleted: Deleted) -> bool
+    ensures { result ≡ spec.is_done deleted }
+{
+    match deleted {
+        Deleted::Done => true,
+        Deleted::NotFound => false,
+    }
+}
