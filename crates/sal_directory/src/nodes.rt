@@ -1,4 +1,4 @@
-ghost use Rattle.std.specs.Prelude.{◌≡◌, ◌<◌, length, IfSome};
+ghost use Rattle.std.specs.Prelude.{◌≡◌};
 ghost use Rattle.sal_directory.specs.Nodes as spec;
 
 use sal_mail::Plan;
@@ -19,8 +19,7 @@ fn serves(name: &Uan, authority: &Authority) -> bool
 /// The theatre with this locator, if the plan has one.
 #[tactic(auto, unfolding(crate::specs::Nodes::theatre_of))]
 pub fn theatre_of(plan: &Plan, place: &Ual) -> Option<usize>
-    ensures theatre { result ≡ spec.theatre_of plan.now place.now }
-    ensures within { IfSome result (λ at. at < length plan.now.theatres) }
+    ensures { result ≡ spec.theatre_of plan.now place.now }
 {
     plan.theatres
         .iter()
@@ -30,8 +29,7 @@ pub fn theatre_of(plan: &Plan, place: &Ual) -> Option<usize>
 /// The naming service of this name, if the plan has one.
 #[tactic(auto, unfolding(crate::specs::Nodes::service_of))]
 pub fn service_of(plan: &Plan, name: &Uan) -> Option<usize>
-    ensures service { result ≡ spec.service_of plan.now name.now }
-    ensures within { IfSome result (λ at. at < length plan.now.names) }
+    ensures { result ≡ spec.service_of plan.now name.now }
 {
     plan.names
         .iter()

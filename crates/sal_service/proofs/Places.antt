@@ -33,6 +33,13 @@ keep_good u e t h g = record { good = λ k x there. at k x (key_eq k (uan_key u)
     at k x true there = ap (λ (z : Entry). is_ual z.place) (sym (some_is e x there)) ∙ h
     at k x false there = g.good k x there
 
+pub forget_good : (u : Uan) (t : Names) → PlacesAreGood t → PlacesAreGood (write t (uan_key u) None)
+forget_good u t g = record { good = λ k x there. at k x (key_eq k (uan_key u)) (sym (get-write t (uan_key u) None k) ∙ there) }
+  where
+    at : (k : TableKey) (x : Entry) (b : Bool) → cond b None (fm.get t k) ≡ Some x → is_ual x.place ≡ true
+    at k x true there = none_apart x there
+    at k x false there = g.good k x there
+
 pub put_good : (u : Uan) (place : Ual) (t : Names) → is_ual place ≡ true → PlacesAreGood t → PlacesAreGood (put_name u place t).1
 unfolding put_name
 put_good u place t h g = at (entry_of u t)

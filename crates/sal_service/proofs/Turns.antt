@@ -14,71 +14,67 @@ use Rattle.sal_carriage.specs.declared.datagram.Taken.TheVariants as taken
 use Rattle.sal_carriage.specs.Halves.{is_envelope}
 use Rattle.sal_carriage.specs.Link.{Link}
 use Rattle.sal_naming.specs.declared.entry.Put.{Put}
-use Rattle.sal_naming.specs.Table.{Names, put_name, get_name}
-use Rattle.sal_node.specs.Halves.{CanCompleteFrom, Completes, complete_from}
+use Rattle.sal_naming.specs.Table.{Names}
+use Rattle.sal_node.specs.Halves.{Completes}
 use Rattle.sal_node.specs.declared.parcel.Parcel.{Parcel}
 use Rattle.sal_node.proofs.Halves.{between}
 use Rattle.sal_node.specs.Links.{Taking, offer_all, sender_of, take_datagram}
+use Rattle.sal_service.specs.declared.origin.Origin.{Origin}
 use Rattle.sal_service.specs.declared.turned.Decision.{Decision}
 use Rattle.sal_service.specs.declared.turned.Turned.{Turned}
-use Rattle.sal_service.specs.Service.{Answered, After, no_answer, if_mine, is_bound, decision_of, answer_put, serve_get, serve_decoded, serve_taken, parcels_to, idle, answer_or_idle, after_taking, after_datagram}
-use Rattle.sal_service.specs.code.Answering.{IsAnswered, after_envelope, undone, settled, names_settled}
+use Rattle.sal_service.specs.Service.{Answered, After, no_answer, if_mine, is_bound, decision_of, answer_put, serve_put, serve_update, serve_decoded, serve_taken, parcels_to, idle, answer_or_idle, after_taking, after_datagram}
+use Rattle.sal_service.specs.code.Answering.{taken_from, CanTake, IsAnswered, IsUnanswered, after, after_envelope, undone, settled, names_settled}
 
 abbrev pub tells : Bool → Turned
 tells took = record { took = took; decision = None }
 
-abbrev pub after : Names → List Link → Turned → After
-after names links turned = record { names = names; links = links; turned = turned }
-
 -- ---- the link for the answer
 
-pub offered : (ps : List Parcel) (from count : ℕ) (old mid new : List Link) → CanCompleteFrom from count old → offer_all ps old ≡ Some mid → new ≡ complete_from from count mid → offer_all ps (complete_from from count old) ≡ Some new
-offered ps from count old mid new can h e = between.offers ps from count old can ∙ ap (option_map (complete_from from count)) h ∙ ap (λ (ls : List Link). Some ls) (sym e)
+pub offered : (ps : List Parcel) (o : Origin) (old mid new : List Link) → CanTake o old → offer_all ps old ≡ Some mid → new ≡ taken_from o mid → offer_all ps (taken_from o old) ≡ Some new
+offered ps o old mid new can h e = between.offers ps o.from o.acknowledges old can ∙ ap (option_map (taken_from o)) h ∙ ap (λ (ls : List Link). Some ls) (sym e)
 
-pub spent : (ps : List Parcel) (from count : ℕ) (old : List Link) → CanCompleteFrom from count old → offer_all ps old ≡ None → offer_all ps (complete_from from count old) ≡ None
-spent ps from count old can h = between.offers ps from count old can ∙ ap (option_map (complete_from from count)) h
+pub spent : (ps : List Parcel) (o : Origin) (old : List Link) → CanTake o old → offer_all ps old ≡ None → offer_all ps (taken_from o old) ≡ None
+spent ps o old can h = between.offers ps o.from o.acknowledges old can ∙ ap (option_map (taken_from o)) h
 
 -- ---- turns
 
--- an envelope that isn't answered, after which the names are these
-pub silent : (from count : ℕ) (names after_names : Names) (links new : List Link) → new ≡ complete_from from count links
-    → after after_names new (tells true) ≡ after_envelope from count names links (record { names = after_names; answer = None; decision = None })
+pub unanswered : (o : Origin) (old new : List Link) (turned : Turned) → turned ≡ tells true → new ≡ taken_from o old → IsUnanswered o old turned new
 unfolding offer_all
-silent from count names after_names links new e = ap (λ (ls : List Link). after after_names ls (tells true)) e
+unanswered o old new turned t e = λ names names_after. ap (λ (u : Turned). after names_after new u) t ∙ ap (λ (ls : List Link). after names_after ls (tells true)) e
 
 -- an answer that tells nothing
-pub answered : (done : Bool) (from count : ℕ) (e : Envelope) (names : Names) (old new : List Link) → IsAnswered from count e old done new
-    → after names new (tells done) ≡ after_envelope from count names old (record { names = names; answer = Some e; decision = None })
-answered true from count e names old new h = sym (ap (answer_or_idle names old true (record { names = names; answer = Some e; decision = None })) h)
-answered false from count e names old new h =
+pub answered : (done : Bool) (o : Origin) (e : Envelope) (names : Names) (old new : List Link) → IsAnswered o e old done new
+    → after names new (tells done) ≡ after_envelope o names old (record { names = names; answer = Some e; decision = None })
+answered true o e names old new h = sym (ap (answer_or_idle names old true (record { names = names; answer = Some e; decision = None })) h)
+answered false o e names old new h =
     ap (λ (ls : List Link). after names ls idle) h.1
     ∙ sym (ap (answer_or_idle names old true (record { names = names; answer = Some e; decision = None })) h.0)
 
 -- ---- a put
 
-abbrev by_bound : ℕ → ℕ → Decision → Names → Names → List Link → Bool → After
-by_bound from count d names put_names old bound =
+abbrev by_bound : Origin → Decision → Names → Names → List Link → Bool → After
+by_bound o d names put_names old bound =
     answer_or_idle names old true (record { names = put_names; answer = Some (envelope.PutReply d.maker d.serial bound); decision = Some (decision_of d.maker d.serial d.name d.theatre bound) })
-    (offer_all (parcels_to from (Some (envelope.PutReply d.maker d.serial bound))) (complete_from from count old))
+    (offer_all (parcels_to o.from (Some (envelope.PutReply d.maker d.serial bound))) (taken_from o old))
 
-pub decided : (from count : ℕ) (d : Decision) (x : Put × Names) (names : Names) (old new : List Link) → d.bound ≡ is_bound x.0 → IsAnswered from count (envelope.PutReply d.maker d.serial d.bound) old true new
-    → after x.1 new (record { took = true; decision = Some d }) ≡ after_envelope from count names old (answer_put d.maker d.serial d.name d.theatre x)
-decided from count d x names old new e h =
+decided : (o : Origin) (d : Decision) (x : Put × Names) (names : Names) (old new : List Link) → d.bound ≡ is_bound x.0 → IsAnswered o (envelope.PutReply d.maker d.serial d.bound) old true new
+    → after x.1 new (record { took = true; decision = Some d }) ≡ after_envelope o names old (answer_put d.maker d.serial d.name d.theatre x)
+decided o d x names old new e h =
     sym (ap (answer_or_idle names old true (record { names = x.1; answer = Some (envelope.PutReply d.maker d.serial d.bound); decision = Some d })) h)
-    ∙ ap (by_bound from count d names x.1 old) e
+    ∙ ap (by_bound o d names x.1 old) e
 
-pub undecided : (from count : ℕ) (d : Decision) (x : Put × Names) (names : Names) (old new : List Link) → d.bound ≡ is_bound x.0 → IsAnswered from count (envelope.PutReply d.maker d.serial d.bound) old false new
-    → after names new (tells false) ≡ after_envelope from count names old (answer_put d.maker d.serial d.name d.theatre x)
-undecided from count d x names old new e h =
+undecided : (o : Origin) (d : Decision) (x : Put × Names) (names : Names) (old new : List Link) → d.bound ≡ is_bound x.0 → IsAnswered o (envelope.PutReply d.maker d.serial d.bound) old false new
+    → after names new (tells false) ≡ after_envelope o names old (answer_put d.maker d.serial d.name d.theatre x)
+undecided o d x names old new e h =
     ap (λ (ls : List Link). after names ls idle) h.1
     ∙ sym (ap (answer_or_idle names old true (record { names = x.1; answer = Some (envelope.PutReply d.maker d.serial d.bound); decision = Some d })) h.0)
-    ∙ ap (by_bound from count d names x.1 old) e
+    ∙ ap (by_bound o d names x.1 old) e
 
-pub settles : (done : Bool) (from count : ℕ) (d : Decision) (x : Put × Names) (names : Names) (old new : List Link) → d.bound ≡ is_bound x.0 → undone d x.1 ≡ names
-    → IsAnswered from count (envelope.PutReply d.maker d.serial d.bound) old done new
-    → after (names_settled done d x.1) new (settled done d) ≡ after_envelope from count names old (answer_put d.maker d.serial d.name d.theatre x)
-settles true from count d x names old new e back h = decided from count d x names old new e h
-settles false from count d x names old new e back h = ap (λ (t : Names). after t new idle) back ∙ undecided from count d x names old new e h
+pub settles : (done : Bool) (o : Origin) (d : Decision) (x : Put × Names) (names : Names) (old new : List Link) → d.bound ≡ is_bound x.0 → undone d x.1 ≡ names
+    → IsAnswered o (envelope.PutReply d.maker d.serial d.bound) old done new
+    → after (names_settled done d x.1) new (settled done d) ≡ after_envelope o names old (answer_put d.maker d.serial d.name d.theatre x)
+settles true o d x names old new e back h = decided o d x names old new e h
+settles false o d x names old new e back h = ap (λ (t : Names). after t new idle) back ∙ undecided o d x names old new e h
 
 -- ---- whose the name is
 
@@ -87,6 +83,19 @@ mine b names x e = ap (λ c. if c then x else no_answer names) (sym e)
 
 pub not_mine : (b : Bool) (names : Names) (x : Answered) → b ≡ false → no_answer names ≡ if_mine b names x
 not_mine b names x e = ap (λ c. if c then x else no_answer names) (sym e)
+
+abbrev pub theatre_if : Bool → Option ℕ → Option ℕ
+theatre_if mine theatre = if mine then theatre else None
+
+pub put_fits : (mine : Bool) (theatre : Option ℕ) (maker : Name) (serial : ℕ) (u : Uan) (place : Ual) (names : Names)
+    → serve_put (theatre_if mine theatre) maker serial u place names ≡ if_mine mine names (serve_put theatre maker serial u place names)
+put_fits true theatre maker serial u place names = refl
+put_fits false theatre maker serial u place names = refl
+
+pub update_fits : (mine : Bool) (theatre : Option ℕ) (u : Uan) (place : Ual) (moves : ℕ) (names : Names)
+    → serve_update (theatre_if mine theatre) u place moves names ≡ if_mine mine names (serve_update theatre u place moves names)
+update_fits true theatre u place moves names = refl
+update_fits false theatre u place moves names = refl
 
 -- ---- a datagram
 
@@ -109,7 +118,7 @@ no_arrival number plan bytes names links h =
     ap (after_taking (sender_of bytes) names links (take_datagram bytes links)) (sym (not_served number plan (take_datagram bytes links).taken names h))
 
 pub arrived : (number : ℕ) (plan : Plan) (bytes : List ℕ) (names : Names) (links : List Link) (a : Arrival) → Completes bytes links a
-    → after_envelope (sender_of bytes) a.acknowledges names links (serve_decoded number plan (decoded_envelope a.envelope) names) ≡ after_datagram number plan bytes names links
+    → after_envelope (record { from = sender_of bytes; acknowledges = a.acknowledges }) names links (serve_decoded number plan (decoded_envelope a.envelope) names) ≡ after_datagram number plan bytes names links
 unfolding after_datagram
 arrived number plan bytes names links a h =
     ap (λ (t : Taking). after_taking (sender_of bytes) names links t (serve_taken number plan t.taken names)) (sym h.taking)

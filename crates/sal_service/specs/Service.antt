@@ -1,11 +1,13 @@
 -- The turns of a naming service's node.
-use Rattle.std.specs.Prelude.{ℕ, ◌+◌, max, Bool, true, false, if◌then◌else◌, nat_eq, nat_lt, List, [], ◌∷◌, Option, Some, None, Result, Ok, Err}
+use Rattle.std.specs.Prelude.{ℕ, ◌+◌, max, Bool, true, false, if◌then◌else◌, nat_eq, nat_lt, List, [], ◌∷◌, Option, Some, None, Result, Ok, Err, refl}
+use Rattle.std.specs.Coded.{Coded, code_by, coded×, coded_ℕ}
 use Rattle.std.specs.FinMap as fm
 use Rattle.sal_value.specs.declared.name.Name.{Name}
 use Rattle.sal_value.specs.declared.name.Uan.{Uan}
 use Rattle.sal_value.specs.declared.name.Ual.{Ual}
 use Rattle.sal_value.specs.declared.value.DecodeFault.{DecodeFault}
 use Rattle.sal_mail.specs.declared.plan.Plan.{Plan}
+use Rattle.sal_mail.specs.contracts.plan.Plan.{the_row as plan_row}
 use Rattle.sal_mail.specs.declared.envelope.Envelope.{Envelope}
 use Rattle.sal_mail.specs.declared.envelope.Envelope.TheVariants as envelope
 use Rattle.sal_envelope.specs.Spelling.{envelope_spelling}
@@ -18,8 +20,9 @@ use Rattle.sal_naming.specs.declared.entry.Put.{Put}
 use Rattle.sal_naming.specs.declared.entry.Put.TheVariants as put
 use Rattle.sal_naming.specs.declared.entry.Deleted.{Deleted}
 use Rattle.sal_naming.specs.declared.entry.Deleted.TheVariants as deleted
-use Rattle.sal_naming.specs.Table.{Names, put_name, get_name, update_name, delete_name}
+use Rattle.sal_naming.specs.Table.{Names, names_code, put_name, get_name, update_name, delete_name}
 use Rattle.sal_directory.specs.Nodes.{theatre_of, service_of}
+use Rattle.sal_node.specs.contracts.links.Links.{the_row as links_row}
 use Rattle.sal_node.specs.declared.parcel.Parcel.{Parcel}
 use Rattle.sal_node.specs.declared.constants.TheConstants.{FIRST_SERVICE}
 use Rattle.sal_node.specs.Links.{Taking, new_links, offer_all, due_on, push_all, sender_of, take_datagram, are_idle}
@@ -33,6 +36,16 @@ pub record Service : Type 0 where
   pub names : Names
   pub links : List Link
   pub clock : ℕ
+
+-- the code of these nodes
+abbrev pub service_code : Coded Service
+service_code =
+    code_by
+    (ℕ × (Plan × (Names × (List Link × ℕ))))
+    (coded× coded_ℕ (coded× plan_row.coded (coded× names_code (coded× links_row.coded coded_ℕ))))
+    (λ s. (s.number, (s.plan, (s.names, (s.links, s.clock)))))
+    (λ p. record { number = p.0; plan = p.1.0; names = p.1.1.0; links = p.1.1.1.0; clock = p.1.1.1.1 })
+    (λ _. refl)
 
 abbrev pub new_service : List ℕ → ℕ → Plan → Service
 new_service program number plan =

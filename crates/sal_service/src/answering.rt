@@ -2,24 +2,18 @@
 
 ghost use Rattle.std.specs.Prelude.{◌≡◌, Some, true, IfOk, OnErr};
 ghost use Rattle.sal_envelope.specs.Spelling.{envelope_spelling, envelope_is_spelled};
-ghost use Rattle.sal_node.specs.Halves.{CanCompleteFrom};
 ghost use Rattle.sal_node.specs.Offers.{IsParcel};
 ghost use Rattle.sal_service.specs.Service.{parcels_to};
-ghost use Rattle.sal_service.specs.code.Answering.{IsAnswered};
+ghost use Rattle.sal_service.specs.code.Answering.{CanTake, IsAnswered, IsUnanswered};
 
+use crate::origin::Origin;
+use crate::turned::{Turned, turn_without_decision};
 use sal_carriage::OfferFault;
 use sal_envelope::encode;
 use sal_mail::Envelope;
 use sal_node::{Links, Parcel};
 use sal_value::{List, NoMemory};
 use std::alloc::Global;
-
-/// The node from which an envelope came, and how many fragments more it acknowledges.
-#[derive(Clone, Copy)]
-pub struct Origin {
-    pub from: u8,
-    pub acknowledges: usize,
-}
 
 /// The answer, for the node that asked.
 fn parcels(alloc: Global, to: u8, answer: &Envelope) -> Result<List<Parcel>, NoMemory>
@@ -32,8 +26,8 @@ fn parcels(alloc: Global, to: u8, answer: &Envelope) -> Result<List<Parcel>, NoM
     Ok(parcels)
 }
 
-/// Offers the answer and takes the envelope that came, with which so many fragments are acknowledged. Where the link
-/// is spent, neither is done, and the result is false.
+/// Offers the answer and takes the envelope that came. Where the link is spent, neither is done, and the result is
+/// false.
 pub fn answer(
     alloc: Global,
     links: &mut Links,
@@ -42,8 +36,8 @@ pub fn answer(
 ) -> Result<bool, NoMemory>
     requires spelled { envelope_is_spelled answer.now ≡ true }
     requires short { IsParcel (envelope_spelling answer.now) }
-    requires can { CanCompleteFrom origin.from origin.acknowledges links.old }
-    ensures ok { IfOk result (λ done. IsAnswered origin.from origin.acknowledges answer.now links.old done links.new) }
+    requires can { CanTake origin links.old }
+    ensures ok { IfOk result (λ done. IsAnswered origin answer.now links.old done links.new) }
     ensures err { OnErr result (links.new ≡ links.old) }
 {
     let parcels = parcels(alloc, origin.from, answer)?;
@@ -55,4 +49,13 @@ pub fn answer(
         Err(OfferFault::Spent) => Ok(false),
         Err(OfferFault::Memory) => Err(NoMemory),
     }
+}
+
+/// Takes an envelope that isn't answered.
+pub fn take_unanswered(alloc: Global, links: &mut Links, origin: Origin) -> Turned
+    requires { CanTake origin links.old }
+    ensures { IsUnanswered origin links.old result links.new }
+{
+    links.complete(alloc, origin.from, origin.acknowledges);
+    turn_without_decision(true)
 }

@@ -3,7 +3,10 @@
 
 mod answering;
 mod node;
+mod origin;
+mod register;
 mod serving;
+mod site;
 mod turned;
 
 pub use node::NameNode;

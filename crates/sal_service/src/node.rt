@@ -4,8 +4,10 @@ ghost use Rattle.std.specs.Prelude.{◌≡◌, ◌<◌, true, length, IfOk, OnOk
 ghost use Rattle.sal_node.specs.Links.{has_few_nodes};
 ghost use Rattle.sal_service.specs.Service as spec;
 
+use crate::register::Register;
 use crate::serving;
-use crate::turned::Turned;
+use crate::site::Site;
+use crate::turned::{Turned, turn_without_decision};
 use sal_carriage::Datagram;
 use sal_mail::Plan;
 use sal_naming::{Deleted, Names};
@@ -17,22 +19,20 @@ use std::marker::Model;
 /// A naming service at its node: its names, and a link to each other node.
 #[derive(Drop)]
 pub struct NameNode {
-    number: u8,
-    plan: Plan,
-    names: Names,
+    site: Site,
+    register: Register,
     links: Links,
     clock: u64,
 }
 
 impl Model for NameNode {
     ghost use Rattle.sal_service.specs.Service as service;
-    ghost use Rattle.sal_service.specs.code.Places.{IsGood};
 
     ghost Value = { service.Service };
 
-    ghost view = { λ n. record { number = n.number; plan = n.plan; names = n.names; links = n.links; clock = n.clock } };
+    ghost coded = { service.service_code };
 
-    ghost invariant = { λ n. IsGood n.plan n.names };
+    ghost view = { λ n. record { number = n.site.number; plan = n.site.plan; names = n.register; links = n.links; clock = n.clock } };
 }
 
 impl NameNode {
@@ -48,10 +48,10 @@ impl NameNode {
         ensures { IfOk result (λ node. node ≡ spec.new_service program number plan.now) }
     {
         let links = Links::new(alloc, program, FIRST_SERVICE + number, plan)?;
+        let plan = plan.clone_in(alloc)?;
         Ok(NameNode {
-            number,
-            plan: plan.clone_in(alloc)?,
-            names: Names::new(alloc),
+            site: Site { number, plan },
+            register: Register::new(alloc),
             links,
             clock: 0,
         })
@@ -64,9 +64,8 @@ impl NameNode {
     {
         serving::datagram(
             alloc,
-            self.number,
-            &self.plan,
-            &mut self.names,
+            &self.site,
+            &mut self.register,
             &mut self.links,
             bytes,
         )
@@ -78,7 +77,7 @@ impl NameNode {
     {
         let took = self.clock < ms;
         self.clock = self.clock.max(ms);
-        serving::turned(took)
+        turn_without_decision(took)
     }
 
     /// What is to be sent now, in the order of the nodes. It counts as sent.
@@ -94,8 +93,8 @@ impl NameNode {
     pub fn delete(&mut self, name: &Uan) -> Turned
         ensures { (self.new, result) ≡ spec.service_delete name.now self.old }
     {
-        let deleted = self.names.delete(name);
-        serving::turned(is_done(deleted))
+        let deleted = self.register.delete(name);
+        turn_without_decision(is_done(deleted))
     }
 
     /// Whether all that was sent is acknowledged, and no acknowledgement is due.
@@ -109,19 +108,19 @@ impl NameNode {
     pub fn number(&self) -> u8
         ensures { result ≡ self.now.number }
     {
-        self.number
+        self.site.number
     }
 
     pub fn plan(&self) -> &Plan
         ensures { result.now ≡ self.now.plan }
     {
-        &self.plan
+        &self.site.plan
     }
 
     pub fn names(&self) -> &Names
         ensures { result.now ≡ self.now.names }
     {
-        &self.names
+        self.register.names()
     }
 
     pub fn links(&self) -> &Links

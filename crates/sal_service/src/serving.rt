@@ -1,106 +1,41 @@
 //! What each kind of envelope does to a naming service.
 
-ghost use Rattle.std.specs.Prelude.{◌≡◌, ◌≤◌, None, true, false, length, is_none, IfOk, OnErr};
+ghost use Rattle.std.specs.Prelude.{◌≡◌, true, false, IfOk, OnErr};
 ghost use Rattle.sal_value.specs.Names.{is_uan, is_ual};
 ghost use Rattle.sal_value.specs.Spelling.{name_is_spelled};
-ghost use Rattle.sal_envelope.specs.Spelling.{envelope_is_spelled};
-ghost use Rattle.sal_envelope.specs.Decoding.{decoded_envelope};
-ghost use Rattle.sal_directory.specs.Nodes.{theatre_of};
-ghost use Rattle.sal_naming.specs.Table.{entry_of, put_name, get_name};
-ghost use Rattle.sal_node.specs.Halves.{CanCompleteFrom};
-ghost use Rattle.sal_node.specs.Links.{sender_of, take_datagram};
 ghost use Rattle.sal_carriage.specs.Halves.{is_envelope};
+ghost use Rattle.sal_envelope.specs.Decoding.{decoded_envelope};
+ghost use Rattle.sal_envelope.specs.Spelling.{envelope_is_spelled};
+ghost use Rattle.sal_naming.specs.Table.{Names, put_name};
+ghost use Rattle.sal_node.specs.Links.{sender_of, take_datagram};
+ghost use Rattle.sal_directory.specs.Nodes.{theatre_of};
 ghost use Rattle.sal_service.specs.Service.{no_answer, is_bound, if_mine, is_mine, answer_put, serve_put, serve_get, serve_update, serve, serve_decoded, after_taking, after_datagram};
-ghost use Rattle.sal_service.specs.code.Answering.{after_envelope, undone, settled, names_settled};
-ghost use Rattle.sal_service.specs.code.Places.{PlacesAreGood};
+ghost use Rattle.sal_service.specs.code.Answering.{CanTake, ComesTo, Serves, after, after_envelope, undone, settled, names_settled};
 
-use crate::answering::{Origin, answer};
-use crate::turned::{Decision, Turned};
-use sal_directory::{service_of, theatre_of};
+use crate::answering::{answer, take_unanswered};
+use crate::origin::Origin;
+use crate::register::Register;
+use crate::site::Site;
+use crate::turned::{Decision, Turned, turn_without_decision};
 use sal_envelope::decode;
-use sal_mail::{Envelope, Plan};
-use sal_naming::{Get, Names};
-use sal_node::Links;
+use sal_mail::Envelope;
+use sal_node::{Links, sender_of};
 use sal_value::{DecodeFault, Name, NoMemory, Ual, Uan};
 use std::alloc::Global;
 
-/// The node from which a datagram comes, by its byte 8.
-fn sender(bytes: &[u8]) -> u8
-    ensures { result ≡ sender_of bytes.now }
-{
-    bytes.get(8).copied().unwrap_or(0)
-}
-
-/// Whether the name is one of the service with this number.
-fn is_mine(number: u8, plan: &Plan, name: &Uan) -> bool
-    ensures { result ≡ is_mine number plan.now name.now }
-{
-    match service_of(plan, name) {
-        Some(service) => service == number as usize,
-        None => false,
-    }
-}
-
-pub fn turned(took: bool) -> Turned
-    ensures { result ≡ record { took = took; decision = None } }
-{
-    Turned {
-        took,
-        decision: None,
-    }
-}
-
-/// Takes an envelope that isn't answered.
-fn ignore(alloc: Global, names: &Names, links: &mut Links, origin: Origin) -> Turned
-    requires { CanCompleteFrom origin.from origin.acknowledges links.old }
-    ensures { record { names = names.now; links = links.new; turned = result } ≡ after_envelope origin.from origin.acknowledges names.now links.old (no_answer names.now) }
-{
-    links.complete(alloc, origin.from, origin.acknowledges);
-    turned(true)
-}
-
-/// Where the name's actor is, and how often it moved.
-fn found(alloc: Global, names: &Names, name: &Uan) -> Result<Option<(Ual, u64)>, NoMemory>
-    ensures { IfOk result (λ found. found ≡ get_name name.now names.now) }
-{
-    match names.get(name) {
-        Get::At(place, moves) => Ok(Some((place.clone_in(alloc)?, moves))),
-        Get::NotFound => Ok(None),
-    }
-}
-
-fn get(
-    alloc: Global,
-    names: &Names,
-    links: &mut Links,
-    origin: Origin,
-    name: Uan,
-) -> Result<Turned, NoMemory>
-    requires named { is_uan name ≡ true }
-    requires good { PlacesAreGood names.now }
-    requires can { CanCompleteFrom origin.from origin.acknowledges links.old }
-    ensures ok { IfOk result (λ t. record { names = names.now; links = links.new; turned = t } ≡ after_envelope origin.from origin.acknowledges names.now links.old (serve_get name names.now)) }
-    ensures err { OnErr result (links.new ≡ links.old) }
-{
-    let found = found(alloc, names, &name)?;
-    let reply = Envelope::GetReply { name, found };
-    let took = answer(alloc, links, origin, &reply)?;
-    Ok(turned(took))
-}
-
-/// Undoes a put by which this was decided.
-fn undo(names: &mut Names, decision: &Decision)
-    ensures { names.new ≡ undone decision.now names.old }
+/// Undoes the put by which this was decided.
+fn undo(register: &mut Register, decision: &Decision)
+    ensures { register.new ≡ undone decision.now register.old }
 {
     if decision.bound {
-        names.forget(&decision.name);
+        register.forget(&decision.name);
     }
 }
 
 /// Tells what was decided, where it was answered; else the put is undone.
-fn settle(names: &mut Names, decision: Decision, done: bool) -> Turned
+fn settle(register: &mut Register, decision: Decision, done: bool) -> Turned
     ensures turned { result ≡ settled done decision }
-    ensures names { names.new ≡ names_settled done decision names.old }
+    ensures names { register.new ≡ names_settled done decision register.old }
 {
     if done {
         return Turned {
@@ -108,14 +43,14 @@ fn settle(names: &mut Names, decision: Decision, done: bool) -> Turned
             decision: Some(decision),
         };
     }
-    undo(names, &decision);
-    turned(false)
+    undo(register, &decision);
+    turn_without_decision(false)
 }
 
 /// Puts the name and answers. Where that fails or the link is spent, the put is undone.
 fn decide(
     alloc: Global,
-    names: &mut Names,
+    register: &mut Register,
     links: &mut Links,
     origin: Origin,
     decision: Decision,
@@ -123,13 +58,9 @@ fn decide(
 ) -> Result<Turned, NoMemory>
     requires maker { name_is_spelled decision.maker ≡ true }
     requires place { is_ual place ≡ true }
-    requires decided { decision.bound ≡ is_bound (put_name decision.name place names.old).0 }
-    requires good { PlacesAreGood names.old }
-    requires can { CanCompleteFrom origin.from origin.acknowledges links.old }
-    ensures ok { IfOk result (λ t. record { names = names.new; links = links.new; turned = t } ≡ after_envelope origin.from origin.acknowledges names.old links.old (answer_put decision.maker decision.serial decision.name decision.theatre (put_name decision.name place names.old))) }
-    ensures names { OnErr result (names.new ≡ names.old) }
-    ensures links { OnErr result (links.new ≡ links.old) }
-    ensures good { PlacesAreGood names.new }
+    requires decided { decision.bound ≡ is_bound (put_name decision.name place register.old).0 }
+    requires can { CanTake origin links.old }
+    ensures { Serves origin (answer_put decision.maker decision.serial decision.name decision.theatre (put_name decision.name place register.old)) register.old links.old result register.new links.new }
 {
     let maker = decision.maker.clone_in(alloc)?;
     let name = decision.name.clone_in(alloc)?;
@@ -138,27 +69,20 @@ fn decide(
         serial: decision.serial,
         bound: decision.bound,
     };
-    let _ = names.put(alloc, name, place)?;
+    register.put(alloc, name, place)?;
     match answer(alloc, links, origin, &reply) {
-        Ok(done) => Ok(settle(names, decision, done)),
+        Ok(done) => Ok(settle(register, decision, done)),
         Err(fault) => {
-            undo(names, &decision);
+            undo(register, &decision);
             Err(fault)
         }
     }
 }
 
-/// Whether the name was never given.
-fn is_new(names: &Names, name: &Uan) -> bool
-    ensures { result ≡ is_none (entry_of name.now names.now) }
-{
-    names.entry(name).is_none()
-}
-
 fn put(
     alloc: Global,
-    plan: &Plan,
-    names: &mut Names,
+    site: &Site,
+    register: &mut Register,
     links: &mut Links,
     origin: Origin,
     maker: Name,
@@ -166,110 +90,50 @@ fn put(
     name: Uan,
     place: Ual,
 ) -> Result<Turned, NoMemory>
-    requires few { length plan.now.theatres ≤ 8 }
     requires maker { name_is_spelled maker ≡ true }
     requires place { is_ual place ≡ true }
-    requires good { PlacesAreGood names.old }
-    requires can { CanCompleteFrom origin.from origin.acknowledges links.old }
-    ensures ok { IfOk result (λ t. record { names = names.new; links = links.new; turned = t } ≡ after_envelope origin.from origin.acknowledges names.old links.old (serve_put (theatre_of plan.now place) maker serial name place names.old)) }
-    ensures names { OnErr result (names.new ≡ names.old) }
-    ensures links { OnErr result (links.new ≡ links.old) }
-    ensures good { PlacesAreGood names.new }
+    requires can { CanTake origin links.old }
+    ensures { Serves origin (if_mine (is_mine site.now.number site.now.plan name) register.old (serve_put (theatre_of site.now.plan place) maker serial name place register.old)) register.old links.old result register.new links.new }
 {
-    let Some(theatre) = theatre_of(plan, &place) else {
-        return Ok(ignore(alloc, names, links, origin));
+    let Some(theatre) = site.theatre_of(&name, &place) else {
+        return Ok(take_unanswered(alloc, links, origin));
     };
-    let bound = is_new(names, &name);
+    let bound = register.is_new(&name);
     let decision = Decision {
         maker,
         serial,
         name,
-        theatre: theatre as u8,
+        theatre,
         bound,
     };
-    decide(alloc, names, links, origin, decision, place)
+    decide(alloc, register, links, origin, decision, place)
 }
 
-fn update(
+fn get(
     alloc: Global,
-    plan: &Plan,
-    names: &mut Names,
-    links: &mut Links,
-    origin: Origin,
-    name: &Uan,
-    place: Ual,
-    moves: u64,
-) -> Turned
-    requires place { is_ual place ≡ true }
-    requires good { PlacesAreGood names.old }
-    requires can { CanCompleteFrom origin.from origin.acknowledges links.old }
-    ensures turned { record { names = names.new; links = links.new; turned = result } ≡ after_envelope origin.from origin.acknowledges names.old links.old (serve_update (theatre_of plan.now place) name.now place moves names.old) }
-    ensures good { PlacesAreGood names.new }
-{
-    let Some(_theatre) = theatre_of(plan, &place) else {
-        return ignore(alloc, names, links, origin);
-    };
-    let _ = names.update(name, place, moves);
-    links.complete(alloc, origin.from, origin.acknowledges);
-    turned(true)
-}
-
-fn get_if_mine(
-    alloc: Global,
-    number: u8,
-    plan: &Plan,
-    names: &Names,
+    site: &Site,
+    register: &Register,
     links: &mut Links,
     origin: Origin,
     name: Uan,
 ) -> Result<Turned, NoMemory>
     requires named { is_uan name ≡ true }
-    requires good { PlacesAreGood names.now }
-    requires can { CanCompleteFrom origin.from origin.acknowledges links.old }
-    ensures ok { IfOk result (λ t. record { names = names.now; links = links.new; turned = t } ≡ after_envelope origin.from origin.acknowledges names.now links.old (if_mine (is_mine number plan.now name) names.now (serve_get name names.now))) }
-    ensures err { OnErr result (links.new ≡ links.old) }
+    requires can { CanTake origin links.old }
+    ensures { Serves origin (if_mine (is_mine site.now.number site.now.plan name) register.now (serve_get name register.now)) register.now links.old result register.now links.new }
 {
-    if !is_mine(number, plan, &name) {
-        return Ok(ignore(alloc, names, links, origin));
+    if !site.is_mine(&name) {
+        return Ok(take_unanswered(alloc, links, origin));
     }
-    get(alloc, names, links, origin, name)
+    let found = register.find(alloc, &name)?;
+    let reply = Envelope::GetReply { name, found };
+    let took = answer(alloc, links, origin, &reply)?;
+    Ok(turn_without_decision(took))
 }
 
-fn put_if_mine(
+fn update(
     alloc: Global,
-    number: u8,
-    plan: &Plan,
-    names: &mut Names,
-    links: &mut Links,
-    origin: Origin,
-    maker: Name,
-    serial: u64,
-    name: Uan,
-    place: Ual,
-) -> Result<Turned, NoMemory>
-    requires few { length plan.now.theatres ≤ 8 }
-    requires maker { name_is_spelled maker ≡ true }
-    requires place { is_ual place ≡ true }
-    requires good { PlacesAreGood names.old }
-    requires can { CanCompleteFrom origin.from origin.acknowledges links.old }
-    ensures ok { IfOk result (λ t. record { names = names.new; links = links.new; turned = t } ≡ after_envelope origin.from origin.acknowledges names.old links.old (if_mine (is_mine number plan.now name) names.old (serve_put (theatre_of plan.now place) maker serial name place names.old))) }
-    ensures names { OnErr result (names.new ≡ names.old) }
-    ensures links { OnErr result (links.new ≡ links.old) }
-    ensures good { PlacesAreGood names.new }
-{
-    if !is_mine(number, plan, &name) {
-        return Ok(ignore(alloc, names, links, origin));
-    }
-    put(
-        alloc, plan, names, links, origin, maker, serial, name, place,
-    )
-}
-
-fn update_if_mine(
-    alloc: Global,
-    number: u8,
-    plan: &Plan,
-    names: &mut Names,
+    site: &Site,
+    register: &mut Register,
     links: &mut Links,
     origin: Origin,
     name: &Uan,
@@ -277,36 +141,28 @@ fn update_if_mine(
     moves: u64,
 ) -> Turned
     requires place { is_ual place ≡ true }
-    requires good { PlacesAreGood names.old }
-    requires can { CanCompleteFrom origin.from origin.acknowledges links.old }
-    ensures turned { record { names = names.new; links = links.new; turned = result } ≡ after_envelope origin.from origin.acknowledges names.old links.old (if_mine (is_mine number plan.now name.now) names.old (serve_update (theatre_of plan.now place) name.now place moves names.old)) }
-    ensures good { PlacesAreGood names.new }
+    requires can { CanTake origin links.old }
+    ensures { after register.new links.new result ≡ after_envelope origin register.old links.old (if_mine (is_mine site.now.number site.now.plan name.now) register.old (serve_update (theatre_of site.now.plan place) name.now place moves register.old)) }
 {
-    if !is_mine(number, plan, name) {
-        return ignore(alloc, names, links, origin);
+    if site.theatre_of(name, &place).is_some() {
+        register.update(name, place, moves);
     }
-    update(alloc, plan, names, links, origin, name, place, moves)
+    take_unanswered(alloc, links, origin)
 }
 
 /// What an envelope does that arrived from this node.
-#[tactic(auto, using(sal_envelope::proofs::Parts::both), unfolding(crate::specs::Service::serve, sal_envelope::specs::Spelling::envelope_is_spelled))]
+#[tactic(auto, unfolding(crate::specs::Service::serve))]
 fn serve(
     alloc: Global,
-    number: u8,
-    plan: &Plan,
-    names: &mut Names,
+    site: &Site,
+    register: &mut Register,
     links: &mut Links,
     origin: Origin,
     envelope: Envelope,
 ) -> Result<Turned, NoMemory>
-    requires few { length plan.now.theatres ≤ 8 }
     requires spelled { envelope_is_spelled envelope ≡ true }
-    requires good { PlacesAreGood names.old }
-    requires can { CanCompleteFrom origin.from origin.acknowledges links.old }
-    ensures ok { IfOk result (λ t. record { names = names.new; links = links.new; turned = t } ≡ after_envelope origin.from origin.acknowledges names.old links.old (serve number plan.now envelope names.old)) }
-    ensures names { OnErr result (names.new ≡ names.old) }
-    ensures links { OnErr result (links.new ≡ links.old) }
-    ensures good { PlacesAreGood names.new }
+    requires can { CanTake origin links.old }
+    ensures { Serves origin (serve site.now.number site.now.plan envelope register.old) register.old links.old result register.new links.new }
 {
     match envelope {
         Envelope::Put {
@@ -314,14 +170,12 @@ fn serve(
             serial,
             name,
             place,
-        } => put_if_mine(
-            alloc, number, plan, names, links, origin, maker, serial, name, place,
+        } => put(
+            alloc, site, register, links, origin, maker, serial, name, place,
         ),
-        Envelope::Get(name) => get_if_mine(alloc, number, plan, names, links, origin, name),
+        Envelope::Get(name) => get(alloc, site, register, links, origin, name),
         Envelope::Update { name, place, moves } => {
-            let turned = update_if_mine(
-                alloc, number, plan, names, links, origin, &name, place, moves,
-            );
+            let turned = update(alloc, site, register, links, origin, &name, place, moves);
             Ok(turned)
         }
         Envelope::Call { .. }
@@ -329,70 +183,58 @@ fn serve(
         | Envelope::Create(_)
         | Envelope::Move(_)
         | Envelope::PutReply { .. }
-        | Envelope::GetReply { .. } => Ok(ignore(alloc, names, links, origin)),
+        | Envelope::GetReply { .. } => Ok(take_unanswered(alloc, links, origin)),
     }
 }
 
 /// What some bytes do that a node sent as an envelope.
 fn serve_bytes(
     alloc: Global,
-    number: u8,
-    plan: &Plan,
-    names: &mut Names,
+    site: &Site,
+    register: &mut Register,
     links: &mut Links,
     origin: Origin,
     bytes: &[u8],
 ) -> Result<Turned, NoMemory>
-    requires few { length plan.now.theatres ≤ 8 }
-    requires good { PlacesAreGood names.old }
-    requires can { CanCompleteFrom origin.from origin.acknowledges links.old }
-    ensures ok { IfOk result (λ t. record { names = names.new; links = links.new; turned = t } ≡ after_envelope origin.from origin.acknowledges names.old links.old (serve_decoded number plan.now (decoded_envelope bytes.now) names.old)) }
-    ensures names { OnErr result (names.new ≡ names.old) }
-    ensures links { OnErr result (links.new ≡ links.old) }
-    ensures good { PlacesAreGood names.new }
+    requires { CanTake origin links.old }
+    ensures { Serves origin (serve_decoded site.now.number site.now.plan (decoded_envelope bytes.now) register.old) register.old links.old result register.new links.new }
 {
     match decode(alloc, bytes) {
-        Ok(envelope) => serve(alloc, number, plan, names, links, origin, envelope),
+        Ok(envelope) => serve(alloc, site, register, links, origin, envelope),
         Err(DecodeFault::Memory) => Err(NoMemory),
-        Err(DecodeFault::Cut | DecodeFault::Bad(_)) => Ok(ignore(alloc, names, links, origin)),
+        Err(DecodeFault::Cut | DecodeFault::Bad(_)) => Ok(take_unanswered(alloc, links, origin)),
     }
 }
 
 /// Takes a datagram that makes no envelope whole.
-fn take(alloc: Global, names: &Names, links: &mut Links, bytes: &[u8]) -> Result<Turned, NoMemory>
+fn take(alloc: Global, links: &mut Links, bytes: &[u8]) -> Result<Turned, NoMemory>
     requires { is_envelope (take_datagram bytes.now links.old).taken ≡ false }
-    ensures ok { IfOk result (λ t. record { names = names.now; links = links.new; turned = t } ≡ after_taking (sender_of bytes.now) names.now links.old (take_datagram bytes.now links.old) (no_answer names.now)) }
+    ensures ok { IfOk result (λ t. (names : Names) → after names links.new t ≡ after_taking (sender_of bytes.now) names links.old (take_datagram bytes.now links.old) (no_answer names)) }
     ensures err { OnErr result (links.new ≡ links.old) }
 {
     let took = links.take(alloc, bytes)?;
-    Ok(turned(took.changed))
+    Ok(turn_without_decision(took.changed))
 }
 
 /// The turn in which a datagram arrived.
 pub fn datagram(
     alloc: Global,
-    number: u8,
-    plan: &Plan,
-    names: &mut Names,
+    site: &Site,
+    register: &mut Register,
     links: &mut Links,
     bytes: &[u8],
 ) -> Result<Turned, NoMemory>
-    requires few { length plan.now.theatres ≤ 8 }
-    requires good { PlacesAreGood names.old }
-    ensures ok { IfOk result (λ t. record { names = names.new; links = links.new; turned = t } ≡ after_datagram number plan.now bytes.now names.old links.old) }
-    ensures names { OnErr result (names.new ≡ names.old) }
-    ensures links { OnErr result (links.new ≡ links.old) }
-    ensures good { PlacesAreGood names.new }
+    ensures { ComesTo (after_datagram site.now.number site.now.plan bytes.now register.old links.old) register.old links.old result register.new links.new }
 {
     match links.arrival(alloc, bytes)? {
         Some(arrival) => {
             let origin = Origin {
-                from: sender(bytes),
+                from: sender_of(bytes),
                 acknowledges: arrival.acknowledges,
             };
             let envelope = arrival.envelope.as_slice();
-            serve_bytes(alloc, number, plan, names, links, origin, envelope)
+            serve_bytes(alloc, site, register, links, origin, envelope)
         }
-        None => take(alloc, names, links, bytes),
+        None => take(alloc, links, bytes),
     }
 }

@@ -1,3 +1,5 @@
+ghost use Rattle.std.specs.Prelude.{◌≡◌, None};
+
 use sal_value::{Name, Uan};
 
 /// Whether a name was bound, or was taken before, for a creation.
@@ -18,4 +20,14 @@ pub struct Turned {
     /// Whether it found something to do.
     pub took: bool,
     pub decision: Option<Decision>,
+}
+
+/// A turn that decides nothing.
+pub fn turn_without_decision(took: bool) -> Turned
+    ensures { result ≡ record { took = took; decision = None } }
+{
+    Turned {
+        took,
+        decision: None,
+    }
 }
