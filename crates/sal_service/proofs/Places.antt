@@ -7,12 +7,14 @@ use Rattle.sal_value.specs.declared.name.Uan.{Uan}
 use Rattle.sal_value.specs.declared.name.Ual.{Ual}
 use Rattle.sal_value.specs.Names.{is_ual}
 use Rattle.sal_value.specs.Order.{uan_key}
-use Rattle.sal_value.specs.Table.{TableKey, key_eq, write}
+use Rattle.sal_value.specs.Table.{TableKey, key_cmp, key_eq, write}
 use Rattle.sal_value.proofs.Tables.{get-write}
 use Rattle.sal_envelope.specs.Spelling.{found_is_spelled}
 use Rattle.sal_naming.specs.declared.entry.Entry.{Entry}
 use Rattle.sal_naming.specs.declared.entry.Put.{Put}
 use Rattle.sal_naming.specs.declared.entry.Put.TheVariants as put
+use Rattle.sal_naming.specs.declared.entry.Updated.{Updated}
+use Rattle.sal_naming.specs.declared.entry.Updated.TheVariants as updated
 use Rattle.sal_naming.specs.Table.{Names, entry_of, if_standing, standing_entry, keep, put_by, put_name, place_and_moves_of, get_name, update_by, update_name, delete_by, delete_name}
 use Rattle.sal_naming.proofs.Removing.{put_undone}
 use Rattle.sal_service.specs.declared.turned.Decision.{Decision}
@@ -63,21 +65,20 @@ stands u t e h = at (entry_of u t) h
 standing_good : (u : Uan) (t : Names) (e : Entry) → PlacesAreGood t → standing_entry u t ≡ Some e → is_ual e.place ≡ true
 standing_good u t e g h = g.good (uan_key u) e (stands u t e h)
 
+abbrev update_if : Uan → Ual → ℕ → Names → Entry → Bool → Updated × Names
+update_if u place moves t e newer = if newer then (updated.Done, keep u (record e { place = place; moves = moves }) t) else (updated.Stale, t)
+
 pub update_good : (u : Uan) (place : Ual) (moves : ℕ) (t : Names) → is_ual place ≡ true → PlacesAreGood t → PlacesAreGood (update_name u place moves t).1
 unfolding update_name
 update_good u place moves t h g = at (standing_entry u t)
   where
-    newer : (e : Entry) (b : Bool) → PlacesAreGood (if b then (keep u (record e { place = place; moves = moves }) t) else t)
+    newer : (e : Entry) (b : Bool) → PlacesAreGood (update_if u place moves t e b).1
     newer e true = keep_good u (record e { place = place; moves = moves }) t h g
     newer e false = g
 
-    pair : {A : Type 0} (a c : A) (b : Bool) (x y : Names) → (if b then (a, x) else (c, y)).1 ≡ (if b then x else y)
-    pair a c true x y = refl
-    pair a c false x y = refl
-
     at : (o : Option Entry) → PlacesAreGood (update_by o u place moves t).1
     at None = g
-    at (Some e) = record { good = λ k x there. (newer e (nat_lt e.moves moves)).good k x (ap (λ (z : Names). fm.get z k) (sym (pair _ _ (nat_lt e.moves moves) _ _)) ∙ there) }
+    at (Some e) = newer e (nat_lt e.moves moves)
 
 pub delete_good : (u : Uan) (t : Names) → PlacesAreGood t → PlacesAreGood (delete_name u t).1
 unfolding delete_name
@@ -96,7 +97,7 @@ found_good u t g = at (standing_entry u t) refl
     at (Some e) h = standing_good u t e g h
 
 pub empty_good : PlacesAreGood fm.empty
-empty_good = record { good = λ k e there. none_apart e (sym (fm.get-empty k) ∙ there) }
+empty_good = record { good = λ k e there. none_apart e (sym (fm.get-empty key_cmp k) ∙ there) }
 
 -- ---- a put
 

@@ -39,12 +39,13 @@ spent ps o old can h = between.offers ps o.from o.acknowledges old can ∙ ap (o
 -- ---- turns
 
 pub unanswered : (o : Origin) (old new : List Link) (turned : Turned) → turned ≡ tells true → new ≡ taken_from o old → IsUnanswered o old turned new
-unfolding offer_all
+unfolding offer_all after_envelope
 unanswered o old new turned t e = λ names names_after. ap (λ (u : Turned). after names_after new u) t ∙ ap (λ (ls : List Link). after names_after ls (tells true)) e
 
 -- an answer that tells nothing
 pub answered : (done : Bool) (o : Origin) (e : Envelope) (names : Names) (old new : List Link) → IsAnswered o e old done new
     → after names new (tells done) ≡ after_envelope o names old (record { names = names; answer = Some e; decision = None })
+unfolding after_envelope
 answered true o e names old new h = sym (ap (answer_or_idle names old true (record { names = names; answer = Some e; decision = None })) h)
 answered false o e names old new h =
     ap (λ (ls : List Link). after names ls idle) h.1
@@ -59,12 +60,14 @@ by_bound o d names put_names old bound =
 
 decided : (o : Origin) (d : Decision) (x : Put × Names) (names : Names) (old new : List Link) → d.bound ≡ is_bound x.0 → IsAnswered o (envelope.PutReply d.maker d.serial d.bound) old true new
     → after x.1 new (record { took = true; decision = Some d }) ≡ after_envelope o names old (answer_put d.maker d.serial d.name d.theatre x)
+unfolding after_envelope
 decided o d x names old new e h =
     sym (ap (answer_or_idle names old true (record { names = x.1; answer = Some (envelope.PutReply d.maker d.serial d.bound); decision = Some d })) h)
     ∙ ap (by_bound o d names x.1 old) e
 
 undecided : (o : Origin) (d : Decision) (x : Put × Names) (names : Names) (old new : List Link) → d.bound ≡ is_bound x.0 → IsAnswered o (envelope.PutReply d.maker d.serial d.bound) old false new
     → after names new (tells false) ≡ after_envelope o names old (answer_put d.maker d.serial d.name d.theatre x)
+unfolding after_envelope
 undecided o d x names old new e h =
     ap (λ (ls : List Link). after names ls idle) h.1
     ∙ sym (ap (answer_or_idle names old true (record { names = x.1; answer = Some (envelope.PutReply d.maker d.serial d.bound); decision = Some d })) h.0)
@@ -119,6 +122,6 @@ no_arrival number plan bytes names links h =
 
 pub arrived : (number : ℕ) (plan : Plan) (bytes : List ℕ) (names : Names) (links : List Link) (a : Arrival) → Completes bytes links a
     → after_envelope (record { from = sender_of bytes; acknowledges = a.acknowledges }) names links (serve_decoded number plan (decoded_envelope a.envelope) names) ≡ after_datagram number plan bytes names links
-unfolding after_datagram
+unfolding after_datagram after_envelope
 arrived number plan bytes names links a h =
     ap (λ (t : Taking). after_taking (sender_of bytes) names links t (serve_taken number plan t.taken names)) (sym h.taking)

@@ -15,12 +15,25 @@ use sal_node::{Links, Parcel};
 use sal_value::{List, NoMemory};
 use std::alloc::Global;
 
-/// The answer, for the node that asked.
-fn parcels(alloc: Global, to: u8, answer: &Envelope) -> Result<List<Parcel>, NoMemory>
-    requires spelled { envelope_is_spelled answer.now ≡ true }
-    ensures { IfOk result (λ ps. ps ≡ parcels_to to (Some answer.now)) }
+/// Drops what has many forms: a type parameter has one.
+fn discard<T: Drop>(_value: T) {}
+
+/// The answer's bytes.
+fn spell(alloc: Global, answer: Envelope) -> Result<List<u8>, NoMemory>
+    requires spelled { envelope_is_spelled answer ≡ true }
+    ensures { IfOk result (λ bytes. bytes ≡ envelope_spelling answer) }
 {
-    let bytes = encode(alloc, answer)?;
+    let bytes = encode(alloc, &answer);
+    discard(answer);
+    bytes
+}
+
+/// The answer, for the node that asked.
+fn parcels(alloc: Global, to: u8, answer: Envelope) -> Result<List<Parcel>, NoMemory>
+    requires spelled { envelope_is_spelled answer ≡ true }
+    ensures { IfOk result (λ ps. ps ≡ parcels_to to (Some answer)) }
+{
+    let bytes = spell(alloc, answer)?;
     let mut parcels = List::new(alloc);
     parcels.push(Parcel { to, bytes })?;
     Ok(parcels)
@@ -32,12 +45,12 @@ pub fn answer(
     alloc: Global,
     links: &mut Links,
     origin: Origin,
-    answer: &Envelope,
+    answer: Envelope,
 ) -> Result<bool, NoMemory>
-    requires spelled { envelope_is_spelled answer.now ≡ true }
-    requires short { IsParcel (envelope_spelling answer.now) }
+    requires spelled { envelope_is_spelled answer ≡ true }
+    requires short { IsParcel (envelope_spelling answer) }
     requires can { CanTake origin links.old }
-    ensures ok { IfOk result (λ done. IsAnswered origin answer.now links.old done links.new) }
+    ensures ok { IfOk result (λ done. IsAnswered origin answer links.old done links.new) }
     ensures err { OnErr result (links.new ≡ links.old) }
 {
     let parcels = parcels(alloc, origin.from, answer)?;
@@ -58,4 +71,13 @@ pub fn take_unanswered(alloc: Global, links: &mut Links, origin: Origin) -> Turn
 {
     links.complete(alloc, origin.from, origin.acknowledges);
     turn_without_decision(true)
+}
+
+/// Takes an envelope that doesn't fit, and drops what was in it.
+pub fn take_misfit<T: Drop>(alloc: Global, links: &mut Links, origin: Origin, parts: T) -> Turned
+    requires { CanTake origin links.old }
+    ensures { IsUnanswered origin links.old result links.new }
+{
+    discard(parts);
+    take_unanswered(alloc, links, origin)
 }

@@ -12,7 +12,7 @@ ghost use Rattle.sal_directory.specs.Nodes.{theatre_of};
 ghost use Rattle.sal_service.specs.Service.{no_answer, is_bound, if_mine, is_mine, answer_put, serve_put, serve_get, serve_update, serve, serve_decoded, after_taking, after_datagram};
 ghost use Rattle.sal_service.specs.code.Answering.{CanTake, ComesTo, Serves, after, after_envelope, undone, settled, names_settled};
 
-use crate::answering::{answer, take_unanswered};
+use crate::answering::{answer, take_misfit, take_unanswered};
 use crate::origin::Origin;
 use crate::register::Register;
 use crate::site::Site;
@@ -64,13 +64,13 @@ fn decide(
 {
     let maker = decision.maker.clone_in(alloc)?;
     let name = decision.name.clone_in(alloc)?;
+    register.put(alloc, name, place)?;
     let reply = Envelope::PutReply {
         maker,
         serial: decision.serial,
         bound: decision.bound,
     };
-    register.put(alloc, name, place)?;
-    match answer(alloc, links, origin, &reply) {
+    match answer(alloc, links, origin, reply) {
         Ok(done) => Ok(settle(register, decision, done)),
         Err(fault) => {
             undo(register, &decision);
@@ -125,8 +125,7 @@ fn get(
         return Ok(take_unanswered(alloc, links, origin));
     }
     let found = register.find(alloc, &name)?;
-    let reply = Envelope::GetReply { name, found };
-    let took = answer(alloc, links, origin, &reply)?;
+    let took = answer(alloc, links, origin, Envelope::GetReply { name, found })?;
     Ok(turn_without_decision(took))
 }
 
@@ -178,12 +177,16 @@ fn serve(
             let turned = update(alloc, site, register, links, origin, &name, place, moves);
             Ok(turned)
         }
-        Envelope::Call { .. }
-        | Envelope::Reply { .. }
-        | Envelope::Create(_)
-        | Envelope::Move(_)
-        | Envelope::PutReply { .. }
-        | Envelope::GetReply { .. } => Ok(take_unanswered(alloc, links, origin)),
+        Envelope::Call { message, .. } => Ok(take_misfit(alloc, links, origin, message)),
+        Envelope::Reply { reply, value, .. } => {
+            Ok(take_misfit(alloc, links, origin, (reply, value)))
+        }
+        Envelope::Create(actor) => Ok(take_misfit(alloc, links, origin, actor)),
+        Envelope::Move(packed) => Ok(take_misfit(alloc, links, origin, packed)),
+        Envelope::PutReply { maker, .. } => Ok(take_misfit(alloc, links, origin, maker)),
+        Envelope::GetReply { name, found } => {
+            Ok(take_misfit(alloc, links, origin, (name, found)))
+        }
     }
 }
 

@@ -32,7 +32,7 @@ abbrev pub after : Names → List Link → Turned → After
 after names links turned = record { names = names; links = links; turned = turned }
 
 -- what comes of an envelope from there with this answer
-abbrev pub after_envelope : Origin → Names → List Link → Answered → After
+unfoldable pub after_envelope : Origin → Names → List Link → Answered → After
 after_envelope o names links x = answer_or_idle names links true x (offer_all (parcels_to o.from x.answer) (taken_from o links))
 
 -- The turn of an envelope that isn't answered, whatever the names before it and after it.
