@@ -150,7 +150,7 @@ fn update(
 }
 
 /// What an envelope does that arrived from this node.
-#[tactic(auto, unfolding(crate::specs::Service::serve))]
+#[tactic(auto, using(crate::proofs::Requests::put_maker, crate::proofs::Requests::put_place, crate::proofs::Requests::get_name, crate::proofs::Requests::update_place), unfolding(crate::specs::Service::serve))]
 fn serve(
     alloc: Global,
     site: &Site,
