@@ -1,5 +1,5 @@
 -- The locators in a table of names stay good.
-use Rattle.std.proofs.Common.{◌≡◌, ℕ, Bool, true, false, cond, Option, Some, None, refl, sym, ap, ◌∙◌, true≢false}
+use Rattle.std.proofs.Common.{◌≡◌, ℕ, Bool, true, false, cond, Option, Some, None, refl, sym, ap, ◌∙◌}
 use Rattle.std.specs.Prelude.{if◌then◌else◌, nat_lt, is_none}
 use Rattle.std.specs.Option.{option_and_then}
 use Rattle.std.specs.FinMap as fm
@@ -11,8 +11,6 @@ use Rattle.sal_value.specs.Table.{TableKey, key_cmp, key_eq, write}
 use Rattle.sal_value.proofs.Tables.{get-write}
 use Rattle.sal_envelope.specs.Spelling.{found_is_spelled}
 use Rattle.sal_naming.specs.declared.entry.Entry.{Entry}
-use Rattle.sal_naming.specs.declared.entry.Put.{Put}
-use Rattle.sal_naming.specs.declared.entry.Put.TheVariants as put
 use Rattle.sal_naming.specs.declared.entry.Updated.{Updated}
 use Rattle.sal_naming.specs.declared.entry.Updated.TheVariants as updated
 use Rattle.sal_naming.specs.Table.{Names, entry_of, if_standing, standing_entry, keep, put_by, put_name, place_and_moves_of, get_name, update_by, update_name, delete_by, delete_name}

@@ -1,5 +1,5 @@
 -- What is known of an envelope that has a spelling.
-use Rattle.std.proofs.Common.{◌≡◌, ℕ, Bool, true, ◌&&◌}
+use Rattle.std.proofs.Common.{◌≡◌, ℕ, true, ◌&&◌}
 use Rattle.std.proofs.lemmas.Bool.{and_parts}
 use Rattle.sal_value.specs.declared.name.Name.{Name}
 use Rattle.sal_value.specs.declared.name.Uan.{Uan}

@@ -1,20 +1,17 @@
 -- Answers are short.
-use Rattle.std.proofs.Common.{◌≡◌, ℕ, ◌+◌, ◌<◌, ◌≤◌, ◌^◌, Bool, true, ◌&&◌, List, [], ◌∷◌, ◌++◌, length, Option, Some, None, ap, ◌∙◌, arith}
-use Rattle.std.specs.Prelude.{if◌then◌else◌, nat_le}
-use Rattle.std.specs.Fmt.{decimal}
+use Rattle.std.proofs.Common.{◌≡◌, ℕ, ◌≤◌, Bool, true, ◌&&◌, [], ◌∷◌, length, Option, Some, None, arith}
+use Rattle.std.specs.Prelude.{if◌then◌else◌}
 use Rattle.std.proofs.lemmas.Bool.{and_parts}
-use Rattle.std.proofs.lemmas.Bool.Decides.{nat_tests}
 use Rattle.std.proofs.lemmas.Fmt.{length-decimal-le}
 use Rattle.std.proofs.lemmas.List.{length-append}
 use Rattle.sal_value.specs.declared.name.Name.{Name}
 use Rattle.sal_value.specs.declared.name.Name.TheVariants as name
 use Rattle.sal_value.specs.declared.name.Uan.{Uan}
 use Rattle.sal_value.specs.declared.name.Ual.{Ual}
-use Rattle.sal_value.specs.Names.{uan_text, ual_text, is_uan, is_ual, is_host, is_port, is_path, is_uan_path}
+use Rattle.sal_value.specs.Names.{uan_text, ual_text, is_uan, is_ual, is_host, is_port, is_uan_path}
 use Rattle.sal_value.specs.Spelling.{name_spelling, name_is_spelled, anon_bytes}
 use Rattle.sal_value.proofs.Texts.{length_uan_text, host_short, path_short}
 use Rattle.sal_value.proofs.Readings.{port_range}
-use Rattle.sal_mail.specs.declared.envelope.Envelope.{Envelope}
 use Rattle.sal_mail.specs.declared.envelope.Envelope.TheVariants as envelope
 use Rattle.sal_envelope.specs.Spelling.{bytes_16, bytes_64, uan_spelling, locator_spelling, made_spelling, found_spelling, found_is_spelled, envelope_spelling}
 use Rattle.sal_envelope.proofs.Parts.{ual_short, uan_is_spelled}

@@ -1,9 +1,6 @@
 -- What turns come to, by what was answered.
-use Rattle.std.proofs.Common.{◌≡◌, ℕ, Bool, true, false, List, [], ◌∷◌, Option, Some, None, Result, Ok, Err, refl, sym, ap, ◌∙◌}
+use Rattle.std.proofs.Common.{◌≡◌, ℕ, Bool, true, false, List, Some, None, refl, sym, ap, ◌∙◌}
 use Rattle.std.specs.Prelude.{if◌then◌else◌, option_map}
-use Rattle.sal_value.specs.declared.name.Name.{Name}
-use Rattle.sal_value.specs.declared.name.Uan.{Uan}
-use Rattle.sal_value.specs.declared.name.Ual.{Ual}
 use Rattle.sal_mail.specs.declared.plan.Plan.{Plan}
 use Rattle.sal_mail.specs.declared.envelope.Envelope.{Envelope}
 use Rattle.sal_mail.specs.declared.envelope.Envelope.TheVariants as envelope
@@ -22,7 +19,7 @@ use Rattle.sal_node.specs.Links.{Taking, offer_all, sender_of, take_datagram}
 use Rattle.sal_service.specs.declared.origin.Origin.{Origin}
 use Rattle.sal_service.specs.declared.turned.Decision.{Decision}
 use Rattle.sal_service.specs.declared.turned.Turned.{Turned}
-use Rattle.sal_service.specs.Service.{Answered, After, no_answer, if_mine, is_bound, decision_of, answer_put, serve_put, serve_update, serve_decoded, serve_taken, parcels_to, idle, answer_or_idle, after_taking, after_datagram}
+use Rattle.sal_service.specs.Service.{Answered, After, no_answer, if_mine, is_bound, decision_of, answer_put, serve_decoded, serve_taken, parcels_to, idle, answer_or_idle, after_taking, after_datagram}
 use Rattle.sal_service.specs.code.Answering.{taken_from, CanTake, IsAnswered, IsUnanswered, after, after_envelope, undone, settled, names_settled}
 
 abbrev pub tells : Bool → Turned
@@ -86,19 +83,6 @@ mine b names x e = ap (λ c. if c then x else no_answer names) (sym e)
 
 pub not_mine : (b : Bool) (names : Names) (x : Answered) → b ≡ false → no_answer names ≡ if_mine b names x
 not_mine b names x e = ap (λ c. if c then x else no_answer names) (sym e)
-
-abbrev pub theatre_if : Bool → Option ℕ → Option ℕ
-theatre_if mine theatre = if mine then theatre else None
-
-pub put_fits : (mine : Bool) (theatre : Option ℕ) (maker : Name) (serial : ℕ) (u : Uan) (place : Ual) (names : Names)
-    → serve_put (theatre_if mine theatre) maker serial u place names ≡ if_mine mine names (serve_put theatre maker serial u place names)
-put_fits true theatre maker serial u place names = refl
-put_fits false theatre maker serial u place names = refl
-
-pub update_fits : (mine : Bool) (theatre : Option ℕ) (u : Uan) (place : Ual) (moves : ℕ) (names : Names)
-    → serve_update (theatre_if mine theatre) u place moves names ≡ if_mine mine names (serve_update theatre u place moves names)
-update_fits true theatre u place moves names = refl
-update_fits false theatre u place moves names = refl
 
 -- ---- a datagram
 

@@ -72,6 +72,7 @@ impl NameNode {
     }
 
     /// The clock shows this many milliseconds; a reading below the last one counts as the last.
+    #[tactic(auto, unfolding(crate::specs::Service::service_clock))]
     pub fn clock(&mut self, ms: u64) -> Turned
         ensures { (self.new, result) ≡ spec.service_clock ms self.old }
     {
@@ -81,6 +82,7 @@ impl NameNode {
     }
 
     /// What is to be sent now, in the order of the nodes. It counts as sent.
+    #[tactic(auto, unfolding(crate::specs::Service::service_due, crate::specs::Service::service_push))]
     pub fn push(&mut self, alloc: Global) -> Result<List<Datagram>, NoMemory>
         ensures datagrams { IfOk result (λ ds. ds ≡ spec.service_due self.old) }
         ensures ok { OnOk result (self.new ≡ spec.service_push self.old) }
@@ -90,6 +92,7 @@ impl NameNode {
     }
 
     /// Withdraws a name for good.
+    #[tactic(auto, unfolding(crate::specs::Service::service_delete))]
     pub fn delete(&mut self, name: &Uan) -> Turned
         ensures { (self.new, result) ≡ spec.service_delete name.now self.old }
     {

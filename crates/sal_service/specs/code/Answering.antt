@@ -1,5 +1,5 @@
 -- What answering an envelope does to links, and what it gives in the end.
-use Rattle.std.specs.Prelude.{◌≡◌, ℕ, Bool, true, false, if◌then◌else◌, List, Option, Some, None, Result, Ok, Err}
+use Rattle.std.specs.Prelude.{◌≡◌, Bool, true, false, if◌then◌else◌, List, Some, None, Result, Ok, Err}
 use Rattle.sal_value.specs.declared.no_memory.NoMemory.{NoMemory}
 use Rattle.sal_value.specs.Order.{uan_key}
 use Rattle.sal_value.specs.Table.{write}

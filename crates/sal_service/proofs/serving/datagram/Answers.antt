@@ -1,8 +1,6 @@
-use Rattle.std.proofs.Common.{◌≡◌, ℕ, false, List, Result, Ok, Err, refl, subst, ◌∙◌}
+use Rattle.std.proofs.Common.{◌≡◌, false, List, Result, Ok, Err, refl, subst, ◌∙◌}
 use Rattle.std.specs.Prelude.{IfOk, OnErr}
 use Rattle.sal_value.specs.declared.no_memory.NoMemory.{NoMemory}
-use Rattle.sal_mail.specs.declared.plan.Plan.{Plan}
-use Rattle.sal_carriage.specs.declared.arrival.Arrival.{Arrival}
 use Rattle.sal_carriage.specs.Halves.{is_envelope}
 use Rattle.sal_carriage.specs.Link.{Link}
 use Rattle.sal_envelope.specs.Decoding.{decoded_envelope}

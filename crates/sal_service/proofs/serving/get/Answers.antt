@@ -1,4 +1,4 @@
-use Rattle.std.proofs.Common.{◌≡◌, ℕ, true, false, Option, Some, None, refl, sym, ap, ◌∙◌}
+use Rattle.std.proofs.Common.{ℕ, Option, Some, None, sym, ap, ◌∙◌}
 use Rattle.sal_value.specs.declared.name.Ual.{Ual}
 use Rattle.sal_mail.specs.declared.envelope.Envelope.TheVariants as envelope
 use Rattle.sal_envelope.specs.Spelling.{envelope_is_spelled}
