@@ -18,8 +18,7 @@ returns-in-Ok-clause-ok c =
 
 pub returns-in-Err-Spent-clause-ok : goal.returns-in-Err-Spent-clause-ok
 returns-in-Err-Spent-clause-ok c =
-    let h = subst (λ (f : OfferFault). OffersAll c.in_ok-parcels.parcels c.args.links.now (Err f) c.offer_all.new.self) c.in-Err-Spent.field-0-is c.in-Err-Spent.ensures in
-    (
+    let h = subst (λ (f : OfferFault). OffersAll c.in_ok-parcels.parcels c.args.links.now (Err f) c.offer_all.new.self) c.in-Err-Spent.field-0-is c.in-Err-Spent.ensures in (
       spent (parcels_to c.args.origin.from (Some c.args.answer)) c.args.origin c.args.links.now c.requires.can
           (ap (λ (ps : List Parcel). offer_all ps c.args.links.now) (sym c.in_ok-parcels.ensures) ∙ h.0),
       h.1,
