@@ -1,4 +1,4 @@
-use crate::NameNode;
+use crate::{NameNode, Turned};
 use sal_carriage::{Link, Taken};
 use sal_mail::Plan;
 use sal_naming::Get;
@@ -119,6 +119,22 @@ fn plan(rt: &impl Abort, alloc: Global) -> Plan {
     }
 }
 
+/// Drops what has many forms: a type parameter has one.
+fn discard<T: Drop>(_value: T) {}
+
+fn bound_by(turned: &Turned) -> Option<bool> {
+    match &turned.decision {
+        Some(decision) => Some(decision.bound),
+        None => None,
+    }
+}
+
+fn took(turned: Turned) -> bool {
+    let took = turned.took;
+    discard(turned);
+    took
+}
+
 /// Offers an envelope, unless it has a length that none has.
 fn offer(alloc: Global, link: &mut Link, envelope: &[u8]) {
     if !envelope.is_empty() && envelope.len() <= 16_777_216 {
@@ -140,9 +156,10 @@ fn send(
         let turned = node
             .datagram(alloc, datagram.bytes.as_slice())
             .expect(rt, "memory");
-        if let Some(decision) = turned.decision {
-            bound = Some(decision.bound);
+        if let Some(decided) = bound_by(&turned) {
+            bound = Some(decided);
         }
+        discard(turned);
     }
     (size, bound)
 }
@@ -216,13 +233,14 @@ fn a_name_is_withdrawn(rt: HostRuntime) {
     let _ = send(&rt, alloc, &mut link, &mut node);
     assert!(rt; node.quiet());
     let name = Uan::read(alloc, b"uan://localhost/x").expect(&rt, "a name");
-    assert!(rt; node.delete(&name).took);
-    assert!(rt; !node.delete(&name).took);
+    assert!(rt; took(node.delete(&name)));
+    assert!(rt; !took(node.delete(&name)));
     assert!(rt; matches!(&node.names().get(&name), Get::NotFound));
-    assert!(rt; node.clock(5).took);
-    assert!(rt; !node.clock(4).took);
+    assert!(rt; took(node.clock(5)));
+    assert!(rt; !took(node.clock(4)));
     assert_eq!(rt; node.moment(), 5);
     assert_eq!(rt; node.number(), 0);
     assert_eq!(rt; node.plan().theatres.len(), 2);
-    assert!(rt; !node.datagram(alloc, b"\x01").expect(&rt, "memory").took);
+    let noise = node.datagram(alloc, b"\x01").expect(&rt, "memory");
+    assert!(rt; !took(noise));
 }
