@@ -11,6 +11,3 @@ mod turned;
 
 pub use node::NameNode;
 pub use turned::{Decision, Turned};
-
-#[cfg(test)]
-mod tests;
