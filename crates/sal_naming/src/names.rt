@@ -1,10 +1,10 @@
 //! The table of names.
 
-ghost use Rattle.std.specs.Prelude.{◌≡◌, IfOk, OnErr};
+ghost use Rattle.std.specs.Prelude.{◌≡◌, None, IfOk, OnErr};
 ghost use Rattle.std.specs.Option.{option_copied};
 ghost use Rattle.std.specs.FinMap as fm;
 ghost use Rattle.sal_value.specs.Order.{uan_key};
-ghost use Rattle.sal_value.specs.Table.{table_by};
+ghost use Rattle.sal_value.specs.Table.{table_by, write};
 ghost use Rattle.sal_naming.specs.Table.{place_and_moves, entry_of, put_name, get_name, update_name, delete_name};
 
 use crate::entry::{Deleted, Entry, Get, Put, Updated};
@@ -97,5 +97,12 @@ impl Names {
             return Deleted::NotFound;
         };
         entry.delete()
+    }
+
+    /// Takes the name out, as if it had never been given: so a put is undone.
+    pub fn forget(&mut self, name: &Uan)
+        ensures { self.new ≡ write self.old (uan_key name.now) None }
+    {
+        let _ = self.entries.remove(name);
     }
 }
