@@ -1,0 +1,15 @@
+//! Replay documents: what was played and what became of it, as lines of text.
+#![tactic(auto)]
+
+mod constants;
+mod forms;
+mod lines;
+mod printing;
+mod reading;
+mod shown;
+mod steps;
+
+pub use constants::LONGEST_DOCUMENT;
+pub use printing::print_replay;
+pub use reading::read_replay;
+pub use shown::{End, Replay, ReplayFault, Shown};
