@@ -1,9 +1,8 @@
 -- Replay documents: lines that tell how a world was played, and what became of it.
-use Rattle.std.specs.Prelude.{ℕ, ◌/◌, ◌%◌, List, [], ◌∷◌, ◌++◌, length, map, codes, slice_get, Option, Some, None}
-use Rattle.std.specs.Char.{digit_char}
+use Rattle.std.specs.Prelude.{ℕ, List, [], ◌∷◌, ◌++◌, length, map, codes, slice_get, Option, Some, None}
+use Rattle.hex.specs.Hex.{encode_lower}
 use Rattle.std.specs.Fmt.{decimal}
 use Rattle.std.specs.List.{flat_map}
-use Rattle.sal_value.specs.declared.name.Name.{Name}
 use Rattle.sal_value.specs.declared.value.Value.{Value}
 use Rattle.sal_value.specs.Names.{name_text, uan_text}
 use Rattle.sal_mail.specs.declared.effects.Actor.{Actor}
@@ -16,7 +15,7 @@ use Rattle.sal_source.specs.declared.state.Step.{Step}
 use Rattle.sal_source.specs.declared.state.Step.TheVariants as step
 use Rattle.sal_literals.specs.Texts.{quoted_text, value_text}
 use Rattle.sal_document.specs.declared.shown.End.{End}
-use Rattle.sal_document.specs.declared.shown.End.TheVariants as «end»
+use Rattle.sal_document.specs.declared.shown.End.TheVariants as ending
 
 -- What a document tells: the hash of the program's text; the steps; the printed texts, each with its theatre; the
 -- faults; the answers to calls from outside; the actors, each with its next number and its theatre; how many
@@ -34,12 +33,8 @@ pub record Document : Type 0 where
 
 -- ---- words
 
--- after a space
-abbrev pub spaced : List ℕ → List ℕ
-spaced text = 32 ∷ text
-
-abbrev pub hex_text : List ℕ → List ℕ
-hex_text bytes = flat_map (λ b. digit_char (b / 16) ∷ digit_char (b % 16) ∷ []) bytes
+abbrev pub Words : Type 0
+Words = List (List ℕ)
 
 -- the name of the behaviour with this number
 abbrev pub name_in : Option Behavior → List ℕ
@@ -57,62 +52,83 @@ handler_name_in (Some h) = h.name
 abbrev pub handler_name : Program → ℕ → ℕ → List ℕ
 handler_name p behavior handler = handler_name_in (slice_get (handlers_at p.behaviors (Some behavior)) handler)
 
--- a maker and a number
-abbrev pub made_text : Name → ℕ → List ℕ
-made_text maker serial = name_text maker ++ spaced (decimal serial)
-
--- ---- lines, without their line feeds
-
-unfoldable pub step_line : Program → Step → List ℕ
-step_line p (step.Handle maker serial fresh) = codes "handle " ++ (made_text maker serial ++ flat_map (λ n. spaced (name_text n)) fresh)
-step_line p (step.Print maker serial) = codes "print " ++ made_text maker serial
-step_line p (step.Bind maker serial) = codes "bind " ++ made_text maker serial
-step_line p (step.Refuse maker serial) = codes "refuse " ++ made_text maker serial
-step_line p (step.Post number target behavior handler args) =
-    codes "post " ++ (decimal number ++ spaced (uan_text target ++ spaced (behavior_name p behavior ++ spaced (handler_name p behavior handler
-    ++ flat_map (λ v. spaced (value_text v)) args))))
-
-unfoldable pub output_line : ℕ × List ℕ → List ℕ
-output_line printed = decimal printed.0 ++ spaced (quoted_text printed.1)
-
-unfoldable pub fault_text : Fault → List ℕ
-fault_text f = made_text f.maker f.serial ++ spaced (kind_text f.kind)
-
-unfoldable pub answer_line : ℕ × Value → List ℕ
-answer_line answer = decimal answer.0 ++ spaced (value_text answer.1)
-
-unfoldable pub actor_line : Program → Actor × ℕ × ℕ → List ℕ
-actor_line p shown =
-    name_text shown.0.name ++ spaced (decimal shown.2 ++ spaced (behavior_name p shown.0.behavior ++ spaced (decimal shown.1
-    ++ flat_map (λ v. spaced (value_text v)) shown.0.fields)))
-
 unfoldable pub end_text : End → List ℕ
-end_text «end».AtRest = codes "at-rest"
-end_text «end».NotAtRest = codes "not-at-rest"
-end_text «end».PacketsFull = codes "packets-full"
+end_text ending.AtRest = codes "at-rest"
+end_text ending.NotAtRest = codes "not-at-rest"
+end_text ending.PacketsFull = codes "packets-full"
 
--- how many lines follow, and these lines
-abbrev pub section : List ℕ → List (List ℕ) → List (List ℕ)
-section name lines = (name ++ spaced (decimal (length lines))) ∷ lines
+-- ---- the words of the lines
 
-abbrev pub counts_text : ℕ × ℕ × ℕ → List ℕ
-counts_text pending = decimal pending.0 ++ spaced (decimal pending.1 ++ spaced (decimal pending.2))
+unfoldable pub step_words : Program → Step → Words
+step_words p (step.Handle maker serial fresh) = codes "handle" ∷ name_text maker ∷ decimal serial ∷ map name_text fresh
+step_words p (step.Print maker serial) = codes "print" ∷ name_text maker ∷ decimal serial ∷ []
+step_words p (step.Bind maker serial) = codes "bind" ∷ name_text maker ∷ decimal serial ∷ []
+step_words p (step.Refuse maker serial) = codes "refuse" ∷ name_text maker ∷ decimal serial ∷ []
+step_words p (step.Post number target behavior handler args) =
+    codes "post" ∷ decimal number ∷ uan_text target ∷ behavior_name p behavior ∷ handler_name p behavior handler ∷ map value_text args
 
--- the lines of a document
-unfoldable pub document_lines : Program → Document → List (List ℕ)
-document_lines p d =
-    codes "salsa-replay 1"
-    ∷ (codes "program " ++ hex_text d.hash)
-    ∷ (section (codes "trace") (map (step_line p) d.trace)
-    ++ (section (codes "output") (map output_line d.output)
-    ++ (section (codes "faults") (map fault_text d.faults)
-    ++ (section (codes "answers") (map answer_line d.answers)
-    ++ (section (codes "actors") (map (actor_line p) d.actors)
-    ++ ((codes "pending " ++ counts_text d.pending)
-    ∷ (codes "packets " ++ decimal d.packets)
-    ∷ (codes "end " ++ end_text d.ending)
-    ∷ []))))))
+unfoldable pub output_words : ℕ × List ℕ → Words
+output_words printed = decimal printed.0 ∷ quoted_text printed.1 ∷ []
 
--- each line ends with a line feed
+unfoldable pub fault_words : Fault → Words
+fault_words f = name_text f.maker ∷ decimal f.serial ∷ kind_text f.kind ∷ []
+
+unfoldable pub answer_words : ℕ × Value → Words
+answer_words answer = decimal answer.0 ∷ value_text answer.1 ∷ []
+
+unfoldable pub actor_words : Program → Actor × ℕ × ℕ → Words
+actor_words p shown =
+    name_text shown.0.name ∷ decimal shown.2 ∷ behavior_name p shown.0.behavior ∷ decimal shown.1 ∷ map value_text shown.0.fields
+
+-- `salsa-replay 1`
+abbrev pub heading_words : Words
+heading_words = codes "salsa-replay" ∷ codes "1" ∷ []
+
+-- two digits in lower case for each byte
+abbrev pub hash_words : List ℕ → Words
+hash_words hash = codes "program" ∷ encode_lower hash ∷ []
+
+-- how many lines a section has
+abbrev pub count_words : List ℕ → ℕ → Words
+count_words name count = name ∷ decimal count ∷ []
+
+abbrev pub pending_words : ℕ × ℕ × ℕ → Words
+pending_words pending = codes "pending" ∷ decimal pending.0 ∷ decimal pending.1 ∷ decimal pending.2 ∷ []
+
+abbrev pub packets_words : ℕ → Words
+packets_words packets = codes "packets" ∷ decimal packets ∷ []
+
+abbrev pub end_words : End → Words
+end_words how = codes "end" ∷ end_text how ∷ []
+
+-- ---- the text
+
+-- the words with a space between two of them, and a line feed
+unfoldable pub line_text : Words → List ℕ
+line_text [] = 10 ∷ []
+line_text (word ∷ words) = word ++ (flat_map (λ w. 32 ∷ w) words ++ 10 ∷ [])
+
+-- how many lines there are, and these lines
+unfoldable pub section_text : {A : Type 0} → List ℕ → (A → Words) → List A → List ℕ
+section_text name words items = line_text (count_words name (length items)) ++ flat_map (λ x. line_text (words x)) items
+
+-- the first two lines
+unfoldable pub head_text : List ℕ → List ℕ
+head_text hash = line_text heading_words ++ line_text (hash_words hash)
+
+-- the last three
+unfoldable pub tail_text : ℕ × ℕ × ℕ → ℕ → End → List ℕ
+tail_text pending packets how = line_text (pending_words pending) ++ (line_text (packets_words packets) ++ line_text (end_words how))
+
+-- what came of the steps, but for what was printed
+unfoldable pub results_text : Program → Document → List ℕ
+results_text p d =
+    section_text (codes "faults") fault_words d.faults
+    ++ (section_text (codes "answers") answer_words d.answers
+    ++ (section_text (codes "actors") (actor_words p) d.actors ++ tail_text d.pending d.packets d.ending))
+
+-- the whole document
 unfoldable pub document_text : Program → Document → List ℕ
-document_text p d = flat_map (λ line. line ++ 10 ∷ []) (document_lines p d)
+document_text p d =
+    head_text d.hash
+    ++ (section_text (codes "trace") (step_words p) d.trace ++ (section_text (codes "output") output_words d.output ++ results_text p d))

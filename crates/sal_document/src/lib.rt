@@ -2,14 +2,10 @@
 #![tactic(auto)]
 
 mod constants;
-mod forms;
-mod lines;
 mod printing;
-mod reading;
 mod shown;
-mod steps;
+mod shows;
 
 pub use constants::LONGEST_DOCUMENT;
 pub use printing::print_replay;
-pub use reading::read_replay;
 pub use shown::{End, Replay, ReplayFault, Shown};
