@@ -15,3 +15,4 @@ pub use constants::{FIRST_SERVICE, LONGEST_SCHEDULE, MOST_LINES, MOST_ROUNDS};
 pub use fault::{LineFault, ScheduleFault};
 pub use line::read_line;
 pub use schedule::read_schedule;
+pub use words::next_word;

@@ -1,0 +1,16 @@
+//! Replay documents: what was played and what became of it, as lines of text.
+#![tactic(auto)]
+
+mod constants;
+mod fault;
+mod lines;
+mod printing;
+mod reading;
+mod shown;
+mod shows;
+mod words;
+
+pub use constants::LONGEST_DOCUMENT;
+pub use printing::print_replay;
+pub use reading::read_replay;
+pub use shown::{End, Replay, ReplayFault, Shown};
