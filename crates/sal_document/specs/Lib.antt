@@ -1,2 +1,4 @@
 pub mod code
 pub mod Documents
+pub mod Parts
+pub mod Refusals

@@ -1,1 +1,4 @@
 pub mod Adding
+pub mod Keeping
+pub mod Reading
+pub mod Reads

@@ -2,10 +2,18 @@
 #![tactic(auto)]
 
 mod constants;
+mod fault;
+mod lines;
 mod printing;
+mod reading;
 mod shown;
 mod shows;
+mod words;
 
 pub use constants::LONGEST_DOCUMENT;
 pub use printing::print_replay;
+pub use reading::read_replay;
 pub use shown::{End, Replay, ReplayFault, Shown};
+
+#[cfg(test)]
+mod tests;

@@ -152,7 +152,7 @@ fn put_results(
 
 /// Adds the document of what is shown.
 #[tactic(auto, unfolding(crate::specs::Documents::document_text))]
-fn put_document(
+pub fn put_document(
     alloc: Global,
     shown: &Shown<'_>,
     program: &Program,

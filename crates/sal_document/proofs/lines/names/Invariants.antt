@@ -1,0 +1,12 @@
+use Rattle.std.proofs.Common.{◌≡◌, length}
+use Rattle.sal_literals.specs.Reading.{name_of}
+use Rattle.sal_schedule.specs.code.Words.{rest_words}
+use Rattle.sal_document.specs.code.Reading.{each_of}
+use Rattle.sal_document.proofs.Each.{after}
+use Rattle.sal_document.proofs.lines.names.Given as goal
+
+abbrev pub invariant-words : goal.invariant-words
+invariant-words l = after l.names (each_of name_of (rest_words l.rest)) ≡ each_of name_of (rest_words l.fn.rest)
+
+abbrev pub decreases-words : goal.decreases-words
+decreases-words l = length (rest_words l.rest)
