@@ -45,6 +45,8 @@ fn main(rt: HostRuntime) -> ExitCode {
 #[cfg(test)]
 mod handlers;
 #[cfg(test)]
+mod schedules;
+#[cfg(test)]
 mod tests;
 #[cfg(test)]
 mod verdicts;
