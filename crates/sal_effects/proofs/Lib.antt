@@ -8,6 +8,7 @@ pub mod Rising
 pub mod Running
 pub mod Sending
 pub mod Serving
+pub mod Signing
 pub mod Small
 pub mod Sorts
 pub mod Spelling

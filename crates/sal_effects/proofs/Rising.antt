@@ -148,6 +148,7 @@ numbers_in_order p c e is =
     (record { fields = each_any c.fields; args = each_any c.args; me = tt; names = λ i l. tt }) e is in
     subst (NumbersRise c) (sym run.effects)
     (record {
+      serial = run.left.moved.serial;
       messages = added c.serial run.state.serial (message_numbers run.state.messages) run.left.moved.messages;
       joins = added c.serial run.state.serial (join_numbers run.state.joins) run.left.moved.joins;
       creations = added c.serial run.state.serial (creation_numbers run.state.creations) run.left.moved.creations;

@@ -23,8 +23,9 @@ join_numbers = map (λ j. j.number)
 abbrev pub creation_numbers : List Creation → List ℕ
 creation_numbers = map (λ x. x.serial)
 
--- In each list numbers rise, from the actor's next number to its new next one.
+-- The actor's next number becomes no lower, and in each list numbers rise from the old one to the new one.
 pub record NumbersRise (c : Call) (e : Effects) : Type 0 where
+  pub serial : c.serial ≤ e.serial
   pub messages : Rise c.serial e.serial (message_numbers e.messages)
   pub joins : Rise c.serial e.serial (join_numbers e.joins)
   pub creations : Rise c.serial e.serial (creation_numbers e.creations)

@@ -1,3 +1,4 @@
+ghost use Rattle.sal_effects.specs.Makers.{HandlersSignTheirOwn};
 ghost use Rattle.sal_effects.specs.Numbers.{HandlersNumberInOrder};
 ghost use Rattle.sal_effects.specs.Ranges.{HandlersKeepRanges, ProgramsBeginInRange};
 ghost use Rattle.sal_effects.specs.Sizes.{HandlersStaySmall};
@@ -7,6 +8,11 @@ ghost use Rattle.sal_effects.specs.Spelled.{HandlersSpellAll, ProgramsBeginLegal
 /// Messages, joins and creations of a handler have their numbers in the order of their lists.
 pub fn handlers_number_in_order()
     ensures { HandlersNumberInOrder }
+{}
+
+/// Each message of a handler has the actor's name as its maker.
+pub fn handlers_sign_their_own()
+    ensures { HandlersSignTheirOwn }
 {}
 
 /// A message waits for each number once and is delayed by a day at most, its handler is one that its
