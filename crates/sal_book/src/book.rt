@@ -5,7 +5,7 @@ ghost use Rattle.sal_mail.specs.Message.{is_ready, with_reply};
 use crate::released::Released;
 use crate::{joins, messages};
 use sal_mail::{Join, Message, Reply};
-use sal_value::{List, NoMemory, Value};
+use sal_value::{CloneIn, List, NoMemory, Value, copies};
 use std::alloc::Global;
 use std::marker::Model;
 
@@ -143,6 +143,15 @@ impl Book {
             Reply::Place(_, join, at) => self.give_place(alloc, *join, *at, value),
             Reply::Nobody | Reply::Outside(_) => Ok(Released::none(alloc)),
         }
+    }
+}
+
+impl CloneIn for Book {
+    fn clone_in(&self, alloc: Global) -> Result<Book, NoMemory> {
+        Ok(Book {
+            messages: copies(alloc, self.messages.as_slice())?.into_vec(),
+            joins: copies(alloc, self.joins.as_slice())?.into_vec(),
+        })
     }
 }
 

@@ -13,6 +13,7 @@ use Rattle.sal_value.proofs.Equations.{fits_ref}
 use Rattle.sal_value.proofs.Decided.{names_are_decided}
 use Rattle.sal_value.proofs.Readings.{names_are_read, locators_are_read}
 use Rattle.sal_ast.specs.declared.program.Behavior.{Behavior}
+use Rattle.sal_ast.specs.declared.program.Program.{Program}
 use Rattle.sal_mail.specs.declared.message.Target.{Target}
 use Rattle.sal_mail.specs.declared.message.Target.TheVariants as target
 use Rattle.sal_mail.specs.declared.message.Reply.{Reply}
@@ -25,10 +26,12 @@ use Rattle.sal_envelope.specs.Spelling.{reply_is_spelled}
 use Rattle.sal_handler.specs.declared.state.Flow.{Flow}
 use Rattle.sal_handler.specs.declared.state.Flow.TheVariants.{Next, Returned, Passed}
 use Rattle.sal_handler.specs.declared.state.State.{State}
+use Rattle.sal_handler.specs.declared.turn.Outcome.TheVariants.{Done}
+use Rattle.sal_handler.specs.Calls.{Call}
 use Rattle.sal_handler.specs.Scopes as c
 use Rattle.sal_handler.specs.Scopes.{Context, fresh_name}
 use Rattle.sal_handler.specs.Handler as h
-use Rattle.sal_handler.specs.WellFormed.{EachOf, Legal, IsGoodMessage, IsNewReply, IsAllowedReply, HaveFreshNames, program_sizes}
+use Rattle.sal_handler.specs.WellFormed.{EachOf, Legal, IsSoundCall, IsGoodMessage, IsNewReply, IsAllowedReply, HaveFreshNames, program_sizes}
 use Rattle.sal_handler.proofs.Addresses.{each_append, each_more}
 use Rattle.sal_handler.proofs.FairCalls.{handlers_orderly}
 use Rattle.sal_handler.proofs.Legal as l
@@ -98,7 +101,7 @@ alone_legal law f behaviors n = record { me = f _ (l.legal_ref (name.Outside 0) 
 
 -- ---- what a part keeps
 
-abbrev CreationIsSpelled : Creation → Type 0
+abbrev pub CreationIsSpelled : Creation → Type 0
 CreationIsSpelled x = (is_uan x.name ≡ true) × IsLocator x.place
 
 pub record Spells (s t : State) : Type 0 where
@@ -159,6 +162,13 @@ answer_legal : (law : Law) → ((v : Value) → law.values.Holds v → Legal v) 
 answer_legal law g r k Next e = l.legal_null
 answer_legal law g r k (Returned v) e = g v e.1
 answer_legal law g r k Passed e = tt
+
+-- the names of creations have texts, to whomever the reply is owed
+pub creations_spelled : (p : Program) (q : Call) (e : Effects) → IsSoundCall q → h.handle p q ≡ Done e → EachOf CreationIsSpelled e.creations
+creations_spelled p q e sound is =
+    let run = has_run spelling_law (alone_legal spelling_law (λ v k. k)) p q (record { texts = each_any (program_texts p); whole = λ b. absurd b })
+    (record { fields = sound.fields; args = sound.args; me = l.legal_ref q.me sound.me; names = λ i low. l.legal_ref (fresh_name q.names i) (named_or q.names i i sound.names) }) e is in
+    subst (λ (z : Effects). EachOf CreationIsSpelled z.creations) (sym run.effects) (run.left.moved.creations tt)
 
 pub spell_all : HandlersSpellAll
 spell_all p c e sound reply is =

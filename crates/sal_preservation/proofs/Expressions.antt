@@ -95,11 +95,12 @@ module _ (StateOf : ℕ → List Value → Type 0) where
   module _ (J : Expr → Scope → Kind → Type 0) (JS : Suffix → Scope → Kind → Kind → Type 0) (makes : ℕ → List Sort) (judges : j.Judges J JS makes) (Fit : Context → Type 0)
       (names : (r : Context) → Fit r → (s : State) → Sits r s → (n : List ℕ) (t : Sort) → name_sort n (scope_of r s) ≡ Some t → Belongs t (c.read_variable n r s))
       (owns : (r : Context) → Fit r → (s : State) → Sits r s → (n : List ℕ) (t : Sort) → field_sort n (scope_of r s) ≡ Some t → Belongs t (c.read_field n r s)) where
-    abbrev pub MakesTyped : FieldMaker → Type 0
-    MakesTyped make = (n : ℕ) (args fs : List Value) → AreOf (makes n) args → make n args ≡ Ok fs → StateOf n fs
+    -- of behaviours that a name in the text has
+    abbrev pub MakesTyped : List Behavior → FieldMaker → Type 0
+    MakesTyped bs make = (b : List ℕ) (n : ℕ) → behavior_by_name b bs ≡ Some n → (args fs : List Value) → AreOf (makes n) args → make n args ≡ Ok fs → StateOf n fs
 
     abbrev pub Able : Context → Type 0
-    Able r = IfAny MakesTyped r.make × Fit r
+    Able r = IfAny (MakesTyped r.behaviors) r.make × Fit r
 
     -- what holds of a meaning with a kind, where the scope is that of the state
     pub record Typed (m : Denotation) (env : Scope) (k : Kind) : Type 0 where
@@ -281,28 +282,28 @@ module _ (StateOf : ℕ → List Value → Type 0) where
       );
     }
 
-    created : (make : FieldMaker) → MakesTyped make → (n : ℕ) (vs : List Value) → AreOf (makes n) vs → (r : Context) (s : State) → Sits r s → Keeps r (OfActor n) s (x.create make n vs r s)
-    created make f n vs l r s h =
+    created : (make : FieldMaker) (bs : List Behavior) → MakesTyped bs make → (b : List ℕ) (n : ℕ) → behavior_by_name b bs ≡ Some n → (vs : List Value) → AreOf (makes n) vs → (r : Context) (s : State) → Sits r s → Keeps r (OfActor n) s (x.create make n vs r s)
+    created make bs f b n named vs l r s h =
         keeps_then r (Any {A = Unit {0}}) (OfActor n) s x.room_for_actor (λ _. lift (make n vs) >>= x.add_actor n r) (room r s h) (λ _ t g q.
-        keeps_then r (StateOf n) (OfActor n) t (lift (make n vs)) (x.add_actor n r) (lifted r (StateOf n) t (make n vs) g.sits (λ fs e. f n vs fs l e)) (λ fs u g1 b. actor_added n r fs b u g1.sits))
+        keeps_then r (StateOf n) (OfActor n) t (lift (make n vs)) (x.add_actor n r) (lifted r (StateOf n) t (make n vs) g.sits (λ fs e. f b n named vs fs l e)) (λ fs u g1 o. actor_added n r fs o u g1.sits))
 
-    created_at : (make : FieldMaker) → MakesTyped make → (n : ℕ) (vs : List Value) → AreOf (makes n) vs → (uan : Value) (ual : Option Value) (r : Context) (s : State) → Sits r s → Keeps r (OfActor n) s (x.create_at make n vs uan ual s)
-    created_at make f n vs l uan ual r s h =
+    created_at : (make : FieldMaker) (bs : List Behavior) → MakesTyped bs make → (b : List ℕ) (n : ℕ) → behavior_by_name b bs ≡ Some n → (vs : List Value) → AreOf (makes n) vs → (uan : Value) (ual : Option Value) (r : Context) (s : State) → Sits r s → Keeps r (OfActor n) s (x.create_at make n vs uan ual s)
+    created_at make bs f b n named vs l uan ual r s h =
         keeps_then r (Any {A = Unit {0}}) (OfActor n) s x.room_for_actor _ (room r s h) (λ _ t g q.
         keeps_then r (Any {A = Uan}) (OfActor n) t (x.name_from uan) _ (lifted r (Any {A = Uan}) t (x.good_name (uan_of (w.text_of uan))) g.sits (λ u e. tt)) (λ u t1 g1 q1.
         keeps_then r (Any {A = Option Ual}) (OfActor n) t1 (x.locator_from ual) _ (locator ual r t1 g1.sits) (λ place t2 g2 q2.
-        keeps_then r (StateOf n) (OfActor n) t2 (lift (make n vs)) _ (lifted r (StateOf n) t2 (make n vs) g2.sits (λ fs e. f n vs fs l e)) (λ fs t3 g3 b.
-        keeps_then r (Any {A = ℕ}) (OfActor n) t3 c.take_serial (x.add_creation n u place fs) (number_taken r t3 g3.sits) (λ k t4 g4 q4. creation_added n u place r fs b k t4 g4.sits)))))
+        keeps_then r (StateOf n) (OfActor n) t2 (lift (make n vs)) _ (lifted r (StateOf n) t2 (make n vs) g2.sits (λ fs e. f b n named vs fs l e)) (λ fs t3 g3 o.
+        keeps_then r (Any {A = ℕ}) (OfActor n) t3 c.take_serial (x.add_creation n u place fs) (number_taken r t3 g3.sits) (λ k t4 g4 q4. creation_added n u place r fs o k t4 g4.sits)))))
 
-    by_typed : (make : Option FieldMaker) → IfAny MakesTyped make → (o : Option ℕ) (n : ℕ) → o ≡ Some n → (vs : List Value) → AreOf (makes n) vs → (r : Context) (s : State) → Sits r s → Keeps r (OfActor n) s (x.create_by make o vs r s)
-    by_typed None f o n is vs l r s h = given r (OfActor n) s v.Null h (null_of n)
-    by_typed (Some make) f None n is vs l r s h = absurd cc
-    by_typed (Some make) f (Some m) n is vs l r s h = let same : n ≡ m = cc in subst (λ z. Keeps r (OfActor n) s (x.create make z vs r s)) same (created make f n vs l r s h)
+    by_typed : (make : Option FieldMaker) (bs : List Behavior) → IfAny (MakesTyped bs) make → (b : List ℕ) (o : Option ℕ) (n : ℕ) → o ≡ Some n → behavior_by_name b bs ≡ Some n → (vs : List Value) → AreOf (makes n) vs → (r : Context) (s : State) → Sits r s → Keeps r (OfActor n) s (x.create_by make o vs r s)
+    by_typed None bs f b o n is named vs l r s h = given r (OfActor n) s v.Null h (null_of n)
+    by_typed (Some make) bs f b None n is named vs l r s h = absurd cc
+    by_typed (Some make) bs f b (Some m) n is named vs l r s h = let same : n ≡ m = cc in subst (λ z. Keeps r (OfActor n) s (x.create make z vs r s)) same (created make bs f b n named vs l r s h)
 
-    at_typed : (make : Option FieldMaker) → IfAny MakesTyped make → (o : Option ℕ) (n : ℕ) → o ≡ Some n → (vs : List Value) → AreOf (makes n) vs → (uan : Value) (ual : Option Value) (r : Context) (s : State) → Sits r s → Keeps r (OfActor n) s (x.create_at_by make o vs uan ual s)
-    at_typed None f o n is vs l uan ual r s h = given r (OfActor n) s v.Null h (null_of n)
-    at_typed (Some make) f None n is vs l uan ual r s h = absurd cc
-    at_typed (Some make) f (Some m) n is vs l uan ual r s h = let same : n ≡ m = cc in subst (λ z. Keeps r (OfActor n) s (x.create_at make z vs uan ual s)) same (created_at make f n vs l uan ual r s h)
+    at_typed : (make : Option FieldMaker) (bs : List Behavior) → IfAny (MakesTyped bs) make → (b : List ℕ) (o : Option ℕ) (n : ℕ) → o ≡ Some n → behavior_by_name b bs ≡ Some n → (vs : List Value) → AreOf (makes n) vs → (uan : Value) (ual : Option Value) (r : Context) (s : State) → Sits r s → Keeps r (OfActor n) s (x.create_at_by make o vs uan ual s)
+    at_typed None bs f b o n is named vs l uan ual r s h = given r (OfActor n) s v.Null h (null_of n)
+    at_typed (Some make) bs f b None n is named vs l uan ual r s h = absurd cc
+    at_typed (Some make) bs f b (Some m) n is named vs l uan ual r s h = let same : n ≡ m = cc in subst (λ z. Keeps r (OfActor n) s (x.create_at make z vs uan ual s)) same (created_at make bs f b n named vs l uan ual r s h)
 
     abbrev Located : Option (Known At PA) → Option At
     Located None = None
@@ -311,15 +312,16 @@ module _ (StateOf : ℕ → List Value → Type 0) where
     new_typed : (b : List ℕ) (es : List (Known Expr PE)) (place : Option (Known At PA)) (env : Scope) (n : ℕ) → behavior_by_name b env.behaviors ≡ Some n → j.ArgsOf J JS makes (Trees es) env (makes n) → j.PlaceOf J JS makes (Located place) env → (r : Context) → Able r → (s : State) → env ≡ scope_of r s → Sits r s →
         Keeps r (OfActor n) s (x.new b (map eval (Trees es)) (option_map location (Located place)) r s)
     new_typed b es None env n is f g r able s e h =
+        let named : behavior_by_name b r.behaviors ≡ Some n = sym (ap (λ (z : Scope). behavior_by_name b z.behaviors) e) ∙ is in
         keeps_then r (AreOf (makes n)) (OfActor n) s (x.eval_all (map eval (Trees es)) r []) (λ vs. x.create_by r.make (behavior_by_name b r.behaviors) vs r) (all_of es env (makes n) f r able [] [] tt s e h) (λ vs t went l.
-        by_typed r.make able.0 (behavior_by_name b r.behaviors) n (sym (ap (λ (z : Scope). behavior_by_name b z.behaviors) e) ∙ is) vs l r t went.sits)
+        by_typed r.make r.behaviors able.0 b (behavior_by_name b r.behaviors) n named named vs l r t went.sits)
     new_typed b es (Some p) env n is f g r able s e h =
         let named : behavior_by_name b r.behaviors ≡ Some n = sym (ap (λ (z : Scope). behavior_by_name b z.behaviors) e) ∙ is in
         keeps_then r (AreOf (makes n)) (OfActor n) s (x.eval_all (map eval (Trees es)) r []) (λ vs. (location p.0).0 r >>= (λ uan. x.eval_option (location p.0).1 r >>= (λ ual. x.create_at_by r.make (behavior_by_name b r.behaviors) vs uan ual))) (all_of es env (makes n) f r able [] [] tt s e h) (λ vs t went l.
         subst (λ (z : LocationDenotation). Keeps r (OfActor n) t ((z.0 r >>= (λ uan. x.eval_option z.1 r >>= (λ ual. x.create_at_by r.make (behavior_by_name b r.behaviors) vs uan ual))) t)) (sym (located_is p.0))
         (keeps_then r (Has g.0.0) (OfActor n) t (eval p.0.uan r) (λ uan. x.eval_option (option_map eval p.0.ual) r >>= (λ ual. x.create_at_by r.make (behavior_by_name b r.behaviors) vs uan ual)) ((p.1.0 env g.0.0 g.0.1).keeps r able t (scope_stays r s t env e went) went.sits) (λ uan t1 w1 q1.
         keeps_then r (Any {A = Option Value}) (OfActor n) t1 (x.eval_option (option_map eval p.0.ual) r) (λ ual. x.create_at_by r.make (behavior_by_name b r.behaviors) vs uan ual) (perhaps_typed p.0.ual p.1.1 env g.1 r able t1 (scope_stays r t t1 env (scope_stays r s t env e went) w1) w1.sits) (λ ual t2 w2 q2.
-        at_typed r.make able.0 (behavior_by_name b r.behaviors) n named vs l uan ual r t2 w2.sits))))
+        at_typed r.make r.behaviors able.0 b (behavior_by_name b r.behaviors) n named named vs l uan ual r t2 w2.sits))))
 
     -- ---- arrays
 

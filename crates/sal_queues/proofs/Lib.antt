@@ -1,0 +1,3 @@
+mod Keys
+pub mod Laws
+pub mod Rooms

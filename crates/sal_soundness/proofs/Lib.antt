@@ -1,0 +1,14 @@
+mod Anywhere
+mod Assigning
+mod Beginning
+mod Ending
+mod Executing
+mod Handling
+mod Joining
+mod Leaves
+mod Making
+mod Running
+mod Sending
+mod Sends
+mod Signing
+mod Statements
