@@ -1,0 +1,60 @@
+-- The desk that a theatre and a draft of changes stand for.
+use Rattle.std.specs.Prelude.{◌≡◌, ℕ, Bool, true, false, List, [], ◌∷◌, ◌++◌, filter, remove, Option, Some, None}
+use Rattle.std.specs.FinMap as fm
+use Rattle.sal_value.specs.declared.name.Name.{Name}
+use Rattle.sal_value.specs.Table.{Table, write}
+use Rattle.sal_mail.specs.declared.message.Message.{Message}
+use Rattle.sal_mail.specs.Message.{is_not_for}
+use Rattle.sal_source.specs.Keys.{name_key}
+use Rattle.sal_carriage.specs.Link.{Link}
+use Rattle.sal_node.specs.Links.{offer_all}
+use Rattle.sal_entries.specs.Entries.{overlaid}
+use Rattle.sal_queues.specs.Queues.{joined}
+use Rattle.sal_routing.specs.declared.item.Item.{Item}
+use Rattle.sal_routing.specs.State.{Theatre, Desk}
+use Rattle.sal_routing.specs.Turns.{is_not_reached}
+use Rattle.sal_desk.specs.declared.draft.Draft.{Draft}
+
+-- without the message at this place, if one is taken
+abbrev pub without_taken : Option ℕ → List Message → List Message
+without_taken None ready = ready
+without_taken (Some i) ready = remove ready i
+
+-- without the calls of those that left
+unfoldable pub without_calls : List Name → List Message → List Message
+without_calls [] ready = ready
+without_calls (n ∷ ns) ready = without_calls ns (filter (is_not_for n) ready)
+
+-- without those whose moments are reached
+abbrev pub without_reached : Option ℕ → List (ℕ × Message) → List (ℕ × Message)
+without_reached None delayed = delayed
+without_reached (Some now) delayed = filter (is_not_reached now) delayed
+
+-- without what was held for these names
+unfoldable pub without_held : List Name → Table (List Item) → Table (List Item)
+without_held [] held = held
+without_held (n ∷ ns) held = without_held ns (write held (name_key n) None)
+
+unfoldable pub theatre_with : Theatre → Draft → Theatre
+theatre_with t d = record t {
+  residents = overlaid d.residents t.residents;
+  ready = without_calls d.left (without_taken d.taken t.ready) ++ d.ready;
+  delayed = without_reached d.reached t.delayed ++ d.delayed;
+  held = joined d.held (without_held d.released t.held);
+  pending = overlaid d.pending t.pending;
+  places = overlaid d.places t.places;
+  questions = overlaid d.questions t.questions;
+  clock = d.clock;
+  next_anon = d.next_anon;
+}
+
+unfoldable pub desk_with : Theatre → Draft → Desk
+desk_with t d = record { theatre = theatre_with t d; work = d.work.items; sent = d.sent; told = d.told }
+
+-- The turn's changes are made and what it sends is offered, or a link is spent and nothing is done.
+abbrev pub CommitsTo : Option (List Link) → Theatre → Desk → Bool → Theatre → Type 0
+CommitsTo None old d done new = (done ≡ false) × (new ≡ old)
+CommitsTo (Some links) old d done new = (done ≡ true) × (new ≡ record d.theatre { links = links })
+
+abbrev pub Commits : Theatre → Desk → Bool → Theatre → Type 0
+Commits old d done new = CommitsTo (offer_all d.sent old.links) old d done new

@@ -1,0 +1,16 @@
+//! What a turn works on: a theatre, and beside it what the turn will change.
+#![tactic(auto)]
+
+mod desk;
+mod draft;
+mod parcels;
+mod residents;
+mod standing;
+mod state;
+
+pub use desk::Desk;
+pub use draft::Draft;
+pub use parcels::Parcels;
+pub use residents::Residents;
+pub use standing::Standing;
+pub use state::State;

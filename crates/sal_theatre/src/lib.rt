@@ -1,0 +1,10 @@
+//! A theatre: its turns, each all or nothing.
+#![tactic(auto)]
+
+mod arrivals;
+mod creating;
+mod envelopes;
+mod fits;
+mod handling;
+mod holding;
+mod routing;
