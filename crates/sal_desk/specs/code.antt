@@ -1,3 +1,4 @@
+pub mod Asking
 pub mod Codes
 pub mod Drafts
 pub mod Effects

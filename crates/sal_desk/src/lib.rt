@@ -1,9 +1,12 @@
 //! What a turn works on: a theatre, and beside it what the turn will change.
 #![tactic(auto)]
 
+mod changes;
 mod desk;
 mod draft;
+mod messages;
 mod parcels;
+mod questions;
 mod residents;
 mod standing;
 mod state;

@@ -7,7 +7,7 @@ ghost use Rattle.std.specs.BTreeMap.{IsOrdered};
 ghost use Rattle.std.specs.FinMap as fm;
 ghost use Rattle.sal_value.specs.Order.{key};
 ghost use Rattle.sal_value.specs.Table.{key_cmp, table_by, write};
-ghost use Rattle.sal_queues.specs.Queues.{queue_of, is_filled, filled, joined, with_room, HasRoomAt, HasRoomFor};
+ghost use Rattle.sal_queues.specs.Queues.{queue_of, is_filled, filled, joined, with_room, HasRoomAt, HasRoomFor, KeepsRoom};
 
 use sal_value::{CloneIn, List, Name, NoMemory};
 use std::alloc::Global;
@@ -133,6 +133,17 @@ impl<T: Drop> Queues<T> {
         ensures queues { filled self.new ≡ write (filled self.old) (key name.now) None }
     {
         let _ = self.lists.remove(name);
+    }
+
+    /// Lets go what is held for the name, and keeps the room for more.
+    pub fn empty(&mut self, name: &Name)
+        ensures queues { filled self.new ≡ write (filled self.old) (key name.now) None }
+        ensures room { KeepsRoom self.old self.new }
+    {
+        let Some(list) = self.lists.get_mut(name) else {
+            return;
+        };
+        list.clear();
     }
 
     fn make_room_at(&mut self, alloc: Global, name: &Name, count: usize) -> Result<(), NoMemory>

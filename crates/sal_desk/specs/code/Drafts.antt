@@ -7,10 +7,12 @@ use Rattle.sal_mail.specs.declared.message.Message.{Message}
 use Rattle.sal_mail.specs.Message.{is_not_for}
 use Rattle.sal_source.specs.Keys.{name_key}
 use Rattle.sal_carriage.specs.Link.{Link}
+use Rattle.sal_node.specs.declared.parcel.Parcel.{Parcel}
 use Rattle.sal_node.specs.Links.{offer_all}
 use Rattle.sal_entries.specs.Entries.{overlaid}
 use Rattle.sal_queues.specs.Queues.{joined}
 use Rattle.sal_routing.specs.declared.item.Item.{Item}
+use Rattle.sal_routing.specs.declared.told.Told.{Told}
 use Rattle.sal_routing.specs.State.{Theatre, Desk}
 use Rattle.sal_routing.specs.Turns.{is_not_reached}
 use Rattle.sal_desk.specs.declared.draft.Draft.{Draft}
@@ -51,10 +53,16 @@ theatre_with t d = record t {
 unfoldable pub desk_with : Theatre → Draft → Desk
 desk_with t d = record { theatre = theatre_with t d; work = d.work.items; sent = d.sent; told = d.told }
 
--- The turn's changes are made and what it sends is offered, or a link is spent and nothing is done.
-abbrev pub CommitsTo : Option (List Link) → Theatre → Desk → Bool → Theatre → Type 0
-CommitsTo None old d done new = (done ≡ false) × (new ≡ old)
-CommitsTo (Some links) old d done new = (done ≡ true) × (new ≡ record d.theatre { links = links })
+-- All is offered, or a link is spent and nothing is.
+abbrev pub OffersIf : Bool → List Parcel → List Link → List Link → Type 0
+OffersIf true parcels old new = offer_all parcels old ≡ Some new
+OffersIf false parcels old new = (offer_all parcels old ≡ None) × (new ≡ old)
 
-abbrev pub Commits : Theatre → Desk → Bool → Theatre → Type 0
-Commits old d done new = CommitsTo (offer_all d.sent old.links) old d done new
+-- The turn's changes are made, what it sends is offered and what it tells is told; or a link is spent and nothing is
+-- done.
+abbrev pub CommitsTo : Option (List Link) → Theatre → Desk → Option Told → Theatre → Type 0
+CommitsTo None old d told new = (told ≡ None) × (new ≡ old)
+CommitsTo (Some links) old d told new = (told ≡ Some d.told) × (new ≡ record d.theatre { links = links })
+
+abbrev pub Commits : Theatre → Desk → Option Told → Theatre → Type 0
+Commits old d told new = CommitsTo (offer_all d.sent old.links) old d told new
