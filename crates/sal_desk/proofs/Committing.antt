@@ -60,6 +60,13 @@ unfolding theatre_with
 theatre_is t d links residents ready delayed held pending places questions a b c e f g h =
     λ i. record t { residents = a i; ready = b i; delayed = c i; held = e i; pending = f i; places = g i; questions = h i; links = links; clock = d.clock; next_anon = d.next_anon }
 
+pub unchanged :
+    (t : Theatre) (residents : Table Resident) (ready : List Message) (delayed : List (ℕ × Message)) (held : Table (List Item)) (pending : Table Pending) (places : Places) (questions : Table Question) (links : List Link)
+    → residents ≡ t.residents → ready ≡ t.ready → delayed ≡ t.delayed → held ≡ t.held → pending ≡ t.pending → places ≡ t.places → questions ≡ t.questions → links ≡ t.links
+    → record t { residents = residents; ready = ready; delayed = delayed; held = held; pending = pending; places = places; questions = questions; links = links } ≡ t
+unchanged t residents ready delayed held pending places questions links a b c e f g h l =
+    λ i. record t { residents = a i; ready = b i; delayed = c i; held = e i; pending = f i; places = g i; questions = h i; links = l i }
+
 pub committed : (t : Theatre) (d : Draft) (links : List Link) (new : Theatre) → offer_all d.sent t.links ≡ Some links → new ≡ record (theatre_with t d) { links = links } → Commits t (desk_with t d) (Some d.told) new
 unfolding desk_with
 committed t d links new is changed = subst (λ o. CommitsTo o t (desk_with t d) (Some d.told) new) (sym is) (refl, changed)

@@ -10,7 +10,11 @@ ghost use Rattle.sal_node.specs.Halves.{IsArrival, CanCompleteFrom, complete_fro
 ghost use Rattle.sal_routing.specs.State.{new_theatre};
 ghost use Rattle.sal_routing.specs.Handling as handling;
 ghost use Rattle.sal_routing.specs.Turns as turns;
+ghost use Rattle.sal_desk.specs.code.Drafts.{desk_with, Commits};
 
+use crate::changes::{change_held, make_room_in_lists, make_room_in_tables, offer_parcels};
+use crate::draft::Draft;
+use crate::messages::{change_delayed, change_ready};
 use crate::questions::again_due;
 use crate::residents::Residents;
 use sal_carriage::{Arrival, Datagram};
@@ -19,7 +23,7 @@ use sal_mail::{Message, Plan};
 use sal_move::Known;
 use sal_node::{Links, Took};
 use sal_queues::Queues;
-use sal_routing::{Item, Pending, Question};
+use sal_routing::{Item, Pending, Question, Told};
 use sal_value::{CloneIn, List, Name, NoMemory, Uan};
 use std::alloc::Global;
 use std::collections::VecDeque;
@@ -220,5 +224,57 @@ impl State {
         ensures { IfOk result (λ names. names ≡ turns.again_due (turns.at_reading ms self.now)) }
     {
         again_due(alloc, &self.questions, self.clock.max(ms))
+    }
+
+    // ---- the end of a turn
+
+    /// Makes all changes of the draft, offers what it sends, and gives what it tells. Where a link is spent, there is
+    /// nothing to tell, and nothing changes.
+    pub fn commit(&mut self, alloc: Global, draft: Draft) -> Result<Option<Told>, NoMemory>
+        ensures ok { IfOk result (λ told. Commits self.old (desk_with self.old draft) told self.new) }
+        ensures err { OnErr result (self.new ≡ self.old) }
+    {
+        make_room_in_lists(&mut self.ready, &mut self.delayed, &draft)?;
+        self.held.make_room(alloc, &draft.held)?;
+        make_room_in_tables(
+            alloc,
+            &mut self.residents,
+            &mut self.pending,
+            &mut self.places,
+            &mut self.questions,
+            &draft,
+        )?;
+        if !offer_parcels(alloc, &mut self.links, &draft.sent)? {
+            return Ok(None);
+        }
+        // From here on nothing takes memory.
+        let Draft {
+            residents,
+            taken,
+            left,
+            ready,
+            reached,
+            delayed,
+            released,
+            held,
+            pending,
+            places,
+            questions,
+            clock,
+            next_anon,
+            work: _,
+            sent: _,
+            told,
+        } = draft;
+        change_ready(&mut self.ready, taken, left.as_slice(), ready);
+        change_delayed(&mut self.delayed, reached, delayed);
+        change_held(&mut self.held, released.as_slice(), held);
+        self.residents.absorb(residents);
+        self.pending.absorb(pending);
+        self.places.absorb(places);
+        self.questions.absorb(questions);
+        self.clock = clock;
+        self.next_anon = next_anon;
+        Ok(Some(told))
     }
 }
