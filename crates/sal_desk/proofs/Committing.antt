@@ -55,7 +55,7 @@ pub theatre_is :
     → places ≡ overlaid d.places t.places
     → questions ≡ overlaid d.questions t.questions
     → record t { residents = residents; ready = ready; delayed = delayed; held = held; pending = pending; places = places; questions = questions; links = links; clock = d.clock; next_anon = d.next_anon }
-      ≡ record (theatre_with t d) { links = links }
+    ≡ record (theatre_with t d) { links = links }
 unfolding theatre_with
 theatre_is t d links residents ready delayed held pending places questions a b c e f g h =
     λ i. record t { residents = a i; ready = b i; delayed = c i; held = e i; pending = f i; places = g i; questions = h i; links = links; clock = d.clock; next_anon = d.next_anon }

@@ -36,13 +36,13 @@ empty_keyed = record { keyed = λ k r is. absurd (none_isnt (sym (ap option_flat
 -- the same values
 pub same_keyed : (t u : Entries Resident) → values u ≡ values t → AreKeyed t → AreKeyed u
 same_keyed t u same all = record {
-  keyed = λ k r is. all.keyed k r (sym (get-values t k) ∙ ap (λ v. fm.get v k) (sym same) ∙ get-values u k ∙ is)
+  keyed = λ k r is. all.keyed k r (sym (get-values t k) ∙ ap (λ v. fm.get v k) (sym same) ∙ get-values u k ∙ is);
 }
 
 -- after changes
 pub changed_keyed : (more t u : Entries Resident) → values u ≡ overlaid more (values t) → AreKeyed more → AreKeyed t → AreKeyed u
 changed_keyed more t u new changes all = record {
-  keyed = λ k r is. at k r (fm.get more k) refl (sym (get-overlaid more (values t) k) ∙ ap (λ v. fm.get v k) (sym new) ∙ get-values u k ∙ is)
+  keyed = λ k r is. at k r (fm.get more k) refl (sym (get-overlaid more (values t) k) ∙ ap (λ v. fm.get v k) (sym new) ∙ get-values u k ∙ is);
 }
   where
     at : (k : TableKey) (r : Resident) (o : Option (Option Resident)) → fm.get more k ≡ o → unwrap_or o (fm.get (values t) k) ≡ Some r → name_key r.name ≡ k
@@ -56,7 +56,7 @@ IsKeyed k (Some r) = name_key r.name ≡ k
 
 written_keyed : (t : Entries Resident) (k : TableKey) (o : Option Resident) → IsKeyed k o → AreKeyed t → AreKeyed (write t k (Some o))
 written_keyed t k o new all = record {
-  keyed = λ q r is. at q r o new (key_eq q k) refl (sym (ap option_flatten (get-write t k (Some o) q)) ∙ is)
+  keyed = λ q r is. at q r o new (key_eq q k) refl (sym (ap option_flatten (get-write t k (Some o) q)) ∙ is);
 }
   where
     at : (q : TableKey) (r : Resident) (o : Option Resident) → IsKeyed k o → (b : Bool) → key_eq q k ≡ b → option_flatten (cond b (Some o) (fm.get t q)) ≡ Some r → name_key r.name ≡ q

@@ -87,12 +87,7 @@ impl Standing {
     }
 
     /// The reply enters its book. What it releases is given.
-    pub fn give(
-        &mut self,
-        alloc: Global,
-        reply: &Reply,
-        value: Value,
-    ) -> Result<Released, NoMemory>
+    pub fn give(&mut self, alloc: Global, reply: &Reply, value: Value) -> Result<Released, NoMemory>
         requires { owner_of reply.now ≡ Some self.old.name }
         ensures ok { OnOk result (self.new ≡ with_book (book_after_reply reply.now value self.old.book) self.old) }
         ensures released { IfOk result (λ it. it ≡ released_by_reply reply.now value self.old.book) }

@@ -102,12 +102,7 @@ fn is_none_pending(pending: &Entries<(u64, Name), Pending>) -> bool
 
 impl State {
     /// A theatre that has done nothing yet. The program's hash begins with these bytes.
-    pub fn new(
-        alloc: Global,
-        me: u8,
-        plan: &Plan,
-        program: [u8; 8],
-    ) -> Result<State, NoMemory>
+    pub fn new(alloc: Global, me: u8, plan: &Plan, program: [u8; 8]) -> Result<State, NoMemory>
         requires { has_few_nodes plan.now ≡ true }
         ensures { IfOk result (λ s. s ≡ new_theatre me plan.now program) }
     {
