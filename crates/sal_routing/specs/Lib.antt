@@ -4,3 +4,4 @@ pub mod Routing
 pub mod Arrivals
 pub mod Handling
 pub mod Turns
+pub mod Laws

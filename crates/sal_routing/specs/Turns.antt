@@ -1,5 +1,5 @@
 -- The turns of a theatre. Each is all or nothing.
-use Rattle.std.specs.Prelude.{ℕ, ◌+◌, max, Bool, true, false, ◌&&◌, ◌||◌, not, if◌then◌else◌, nat_eq, nat_le, nat_lt, List, [], ◌∷◌, ◌++◌, map, filter, slice_get, Option, Some, None, Result, Ok, Err}
+use Rattle.std.specs.Prelude.{ℕ, ◌+◌, max, Bool, true, false, ◌&&◌, ◌||◌, not, if◌then◌else◌, nat_eq, nat_le, nat_lt, List, [], ◌∷◌, map, filter, slice_get, Option, Some, None, Result, Ok, Err}
 use Rattle.std.specs.FinMap as fm
 use Rattle.sal_value.specs.declared.name.Name.{Name}
 use Rattle.sal_value.specs.declared.name.Name.TheVariants as name
@@ -18,7 +18,7 @@ use Rattle.sal_handler.specs.declared.turn.Began.{Began}
 use Rattle.sal_handler.specs.declared.turn.Began.TheVariants as began
 use Rattle.sal_handler.specs.Calls.{Meaning}
 use Rattle.sal_source.specs.declared.state.Step.TheVariants.{Post}
-use Rattle.sal_source.specs.Keys.{name_key, made_key}
+use Rattle.sal_source.specs.Keys.{made_key}
 use Rattle.sal_source.specs.Configuration.{start_name, act_message}
 use Rattle.sal_source.specs.Posts.{post_message}
 use Rattle.sal_source.specs.Step.{bound_actor}

@@ -1,0 +1,5 @@
+pub mod Clocks
+pub mod Ending
+pub mod Kept
+pub mod Nodes
+pub mod Quiet
