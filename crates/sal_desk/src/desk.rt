@@ -1,11 +1,11 @@
 //! The desk on which a turn works.
 
-ghost use Rattle.std.specs.Prelude.{◌≡◌, [], ◌∷◌, ◌++◌, ◌<◌, Some, None, length, option_map, slice_get, IfSome, OnOk, OnErr};
+ghost use Rattle.std.specs.Prelude.{◌≡◌, [], ◌∷◌, ◌++◌, filter, option_map, IfOk, IfSome, OnOk};
 ghost use Rattle.std.specs.Option.{option_copied, option_to_list};
 ghost use Rattle.std.specs.FinMap as fm;
 ghost use Rattle.sal_value.specs.Order.{uan_key};
 ghost use Rattle.sal_value.specs.declared.name.Name.TheVariants.{Uan as Universal};
-ghost use Rattle.sal_mail.specs.Message.{is_for};
+ghost use Rattle.sal_mail.specs.Message.{is_for, is_not_for};
 ghost use Rattle.sal_source.specs.Keys.{name_key, made_key};
 ghost use Rattle.sal_move.specs.Places as places;
 ghost use Rattle.sal_book.specs.Book.{released_by_entry};
@@ -15,7 +15,7 @@ ghost use Rattle.sal_routing.specs.Routing as routing;
 ghost use Rattle.sal_routing.specs.Arrivals as arrivals;
 ghost use Rattle.sal_routing.specs.Handling as handling;
 ghost use Rattle.sal_routing.specs.Turns as turns;
-ghost use Rattle.sal_desk.specs.code.Drafts.{desk_with};
+ghost use Rattle.sal_desk.specs.code.Drafts.{desk_with, without_taken, is_among};
 
 use crate::draft::Draft;
 use crate::parcels::Parcels;
@@ -23,7 +23,7 @@ use crate::residents::Residents;
 use crate::standing::Standing;
 use crate::state::State;
 use sal_entries::Entries;
-use sal_mail::{Envelope, Fault, Join, Message, Plan, Reply};
+use sal_mail::{Envelope, Fault, Join, Message, Plan, Reply, Target};
 use sal_move::Known;
 use sal_queues::Queues;
 use sal_routing::{Asking, Item, Pending, Question, Told};
@@ -33,6 +33,7 @@ use sal_value::{CloneIn, List, Name, NoMemory, Text, Uan, Value};
 use std::alloc::Global;
 use std::collections::VecDeque;
 use std::marker::Model;
+use std::mem;
 
 /// A theatre, as it will be after the changes of a draft.
 #[derive(Drop)]
@@ -84,6 +85,75 @@ fn draft(alloc: Global, clock: u64, next_anon: u64, taken: Option<usize>, reache
         sent: Parcels::new(alloc),
         told: silence(alloc),
     }
+}
+
+/// Whether the name is one of these.
+fn is_among(names: &[Name], name: &Name) -> bool
+    ensures { result ≡ is_among name.now names.now }
+{
+    for one in names {
+        if one == name {
+            return true;
+        }
+    }
+    false
+}
+
+fn is_for(message: &Message, name: &Name) -> bool
+    ensures { result ≡ is_for name.now message.now }
+{
+    match &message.target {
+        Target::Actor(actor) => actor == name,
+        Target::Output => false,
+    }
+}
+
+/// Copies of those for the actor, at the end of the list.
+fn add_calls(
+    alloc: Global,
+    messages: &[Message],
+    name: &Name,
+    calls: &mut List<Message>,
+) -> Result<(), NoMemory>
+    ensures { OnOk result (calls.new ≡ calls.old ++ filter (is_for name.now) messages.now) }
+{
+    for message in messages {
+        if is_for(message, name) {
+            calls.push(message.clone_in(alloc)?)?;
+        }
+    }
+    Ok(())
+}
+
+/// Copies of those for the actor but for the one that is taken.
+fn calls_among(
+    alloc: Global,
+    ready: &VecDeque<Message>,
+    taken: Option<usize>,
+    name: &Name,
+) -> Result<List<Message>, NoMemory>
+    ensures { IfOk result (λ calls. calls ≡ filter (is_for name.now) (without_taken taken ready.now.items)) }
+{
+    let mut calls = List::new(alloc);
+    for at in 0..ready.len() {
+        if taken != Some(at) && is_for(&ready[at], name) {
+            calls.push(ready[at].clone_in(alloc)?)?;
+        }
+    }
+    Ok(calls)
+}
+
+/// Those that are for others.
+fn others(alloc: Global, messages: List<Message>, name: &Name) -> Result<List<Message>, NoMemory>
+    ensures { IfOk result (λ others. others ≡ filter (is_not_for name.now) messages) }
+{
+    let mut others = List::new(alloc);
+    for message in messages.into_vec() {
+        if !is_for(&message, name) {
+            others.push(message)?;
+        }
+    }
+    Ok(others)
 }
 
 /// The theatre of a known place.
@@ -376,8 +446,11 @@ impl<'t> Desk<'t> {
     pub fn calls_for(&self, alloc: Global, name: &Name) -> Result<List<Message>, NoMemory>
         ensures { IfOk result (λ calls. calls ≡ filter (is_for name.now) self.now.theatre.ready) }
     {
-        let ready = ready_now(alloc, self.state, &self.draft)?;
-        let (calls, _) = parted(alloc, ready, name)?;
+        let mut calls = List::new(alloc);
+        if !is_among(self.draft.left.as_slice(), name) {
+            calls = calls_among(alloc, &self.state.ready, self.draft.taken, name)?;
+        }
+        add_calls(alloc, self.draft.ready.as_slice(), name, &mut calls)?;
         Ok(calls)
     }
 
@@ -386,7 +459,8 @@ impl<'t> Desk<'t> {
         ensures { OnOk result (self.new ≡ record self.old { theatre = arrivals.without_resident actor.now self.old.theatre }) }
     {
         let name = &actor.resident().name;
-        self.draft.ready = others(alloc, &self.draft.ready, name)?;
+        let ready = mem::replace(&mut self.draft.ready, List::new(alloc));
+        self.draft.ready = others(alloc, ready, name)?;
         self.draft.left.push(name.clone_in(alloc)?)?;
         self.draft.residents.remove(name.clone_in(alloc)?)
     }

@@ -1,8 +1,8 @@
 -- The desk that a theatre and a draft of changes stand for.
 use Rattle.std.specs.Prelude.{◌≡◌, ℕ, Bool, true, false, List, [], ◌∷◌, ◌++◌, filter, remove, Option, Some, None}
-use Rattle.std.specs.FinMap as fm
+use Rattle.std.specs.List.{list_any}
 use Rattle.sal_value.specs.declared.name.Name.{Name}
-use Rattle.sal_value.specs.Table.{Table, write}
+use Rattle.sal_value.specs.Table.{Table, key_eq, write}
 use Rattle.sal_mail.specs.declared.message.Message.{Message}
 use Rattle.sal_mail.specs.Message.{is_not_for}
 use Rattle.sal_source.specs.Keys.{name_key}
@@ -29,6 +29,10 @@ without_calls (n ∷ ns) ready = without_calls ns (filter (is_not_for n) ready)
 abbrev pub without_reached : Option ℕ → List (ℕ × Message) → List (ℕ × Message)
 without_reached None delayed = delayed
 without_reached (Some now) delayed = filter (is_not_reached now) delayed
+
+-- the name is one of these
+abbrev pub is_among : Name → List Name → Bool
+is_among n names = list_any (λ m. key_eq (name_key m) (name_key n)) names
 
 -- without what was held for these names
 unfoldable pub without_held : List Name → Table (List Item) → Table (List Item)
