@@ -302,6 +302,22 @@ module _ {V : Type 0} where
   changed-none b None t k e is = refl
   changed-none b (Some v) t k e is = absurd (true≢false (sym e ∙ is))
 
+  -- a turn of the loop that makes room for the keys of `more`, where e is the next of its entries
+  pub room-turn : {X : Type 0} (e : TableKey × X) (es : List (TableKey × X)) (more : Table X) (first old new : Entries V)
+      → new ≡ with_room e.0 old → HasRoomBut (e ∷ es) more old → HasRoomFor first old → values old ≡ values first
+      → HasRoomBut es more new × HasRoomFor first new × (values new ≡ values first)
+  room-turn e es more first old new is but had same =
+      subst (λ t. HasRoomBut es more t × HasRoomFor first t × (values t ≡ values first)) (sym is)
+      (room-step e es more old but, room-through first old (with_room e.0 old) had (room-more old e.0), values-with_room old e.0 ∙ same)
+
+  -- a turn of the loop that makes the changes, of which the first is of o at k
+  pub absorb-turn : (left more old new : Entries V) (k : TableKey) (o : Option V) (aim : Table V)
+      → fm.entries left ≡ (k, o) ∷ fm.entries more → new ≡ write old k (option_map Some o) → HasRoomFor left old → overlaid left (values old) ≡ aim
+      → HasRoomFor more new × (overlaid more (values new) ≡ aim)
+  absorb-turn left more old new k o aim first is had same =
+      subst (λ t. HasRoomFor more t × (overlaid more (values t) ≡ aim)) (sym is)
+      (room-popped left more old k o (option_map Some o) first had, sym (committed left more old k o (option_map Some o) (says-value o) first) ∙ same)
+
 pub shorter-popped : {X : Type 0} (c more : Table X) (e : TableKey × X) → fm.entries c ≡ e ∷ fm.entries more → fm.len more < fm.len c
 shorter-popped c more e is = omega (arith, fm.len-entries c, fm.len-entries more, ap length is)
 

@@ -6,3 +6,6 @@ mod keyed;
 
 pub use entries::Entries;
 pub use keyed::Keyed;
+
+#[cfg(test)]
+mod tests;

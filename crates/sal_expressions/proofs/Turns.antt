@@ -23,7 +23,7 @@ if_true : {X : Type 0} (x y : X) (b : Bool) → b ≡ true → (if b then x else
 if_true x y true e = refl
 if_true x y false e = absurd (let f : false ≡ true = e in cc)
 
-if_false : {X : Type 0} (x y : X) (b : Bool) → b ≡ false → (if b then x else y) ≡ y
+pub if_false : {X : Type 0} (x y : X) (b : Bool) → b ≡ false → (if b then x else y) ≡ y
 if_false x y false e = refl
 if_false x y true e = absurd (let f : true ≡ false = e in cc)
 

@@ -9,7 +9,7 @@ ghost use Rattle.sal_grammar.specs.Statements.{below, one_less};
 ghost use Rattle.sal_reader.specs.Reads.{Reads};
 
 use crate::nest::Nest;
-use crate::parts::{into_name, new_of, own, plain, size, suffixed, unless_sees};
+use crate::parts::{add, into_name, new_of, own, plain, size, suffixed, unless_sees};
 use sal_ast::{Expr, Ident, Suffix};
 use sal_grammar::Reason;
 use sal_reader::{Cursor, Set, Stop};
@@ -84,7 +84,8 @@ impl<F: Copy + Fn(Global, &mut Cursor<'_>, usize) -> Result<Expr, Stop>> Grammar
             if !cursor.sees(Set::Suffix) {
                 return Ok(found);
             }
-            found.push(self.suffix(cursor)?)?;
+            let item = self.suffix(cursor)?;
+            add(self.alloc, &mut found, item)?;
         }
         Ok(found)
     }
@@ -233,7 +234,7 @@ impl<F: Copy + Fn(Global, &mut Cursor<'_>, usize) -> Result<Expr, Stop>> Grammar
         } else {
             cursor.take(Set::Length)?;
             let mut found = List::new(self.alloc);
-            found.push(Suffix::Length(at))?;
+            add(self.alloc, &mut found, Suffix::Length(at))?;
             self.with_suffixes(cursor, Expr::Name(name), found)
         }
     }

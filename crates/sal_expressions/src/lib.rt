@@ -9,5 +9,5 @@ mod rank;
 mod sorts;
 
 pub use at_depth::{after_dot, after_name, closed_postfix, expr, other_postfix, suffixes, unary};
-pub use parts::{suffixed, unless_sees};
+pub use parts::{add, suffixed, unless_sees};
 pub use sorts::{name, pairs, type_of};

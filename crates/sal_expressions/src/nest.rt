@@ -3,12 +3,12 @@
 
 ghost use Rattle.sal_expressions.specs.code.Items.{next_expr, next_exprs, exprs_until, expr_list};
 ghost use Rattle.sal_expressions.specs.code.Nests.{Nests};
-ghost use Rattle.sal_expressions.specs.code.Ranks.{level_at, operand_at, operands_at, tighter_at};
+ghost use Rattle.sal_expressions.specs.code.Ranks.{after_at, after_tighter_at, level_at, operand_at, operands_at, tighter_at};
 ghost use Rattle.sal_grammar.specs.Expressions as spec;
 ghost use Rattle.sal_reader.specs.Reads.{Reads, set_of};
 
-use crate::parts::{level, unless_sees, with_sign};
-use crate::rank::{Rank, op_of, operators, tighter_rank};
+use crate::parts::{add, level, unless_sees, with_sign};
+use crate::rank::{Rank, binds, op_of, operators, tighter_rank};
 use crate::sorts::{pairs, type_of};
 use sal_ast::{At, Expr, Ident, Operand, Suffix};
 use sal_reader::{Cursor, Set, Stop, Symbol};
@@ -72,21 +72,52 @@ impl<F: Fn(Global, &mut Cursor<'_>, usize) -> Result<Expr, Stop>> Nest<F> {
             if !cursor.sees(operators(rank)) {
                 return Ok(found);
             }
-            found.push(self.operand(cursor, rank)?)?;
+            let item = self.operand(cursor, rank)?;
+            add(self.alloc, &mut found, item)?;
         }
         Ok(found)
     }
 
+    /// What comes after an operand, up to the operators that bind tighter than this rank's.
+    #[cycle(level)]
+    #[tactic(auto, using(crate::proofs::Ranks::after_tighter_some, crate::proofs::Ranks::after_tighter_none))]
+    fn after_tighter(&self, cursor: &mut Cursor<'_>, rank: Rank, first: Expr) -> Result<Expr, Stop>
+        requires { Nests self.now.depth (F.pre self.now.unary) (F.post self.now.unary) }
+        ensures { Reads (after_tighter_at rank (spec.unary self.now.depth) first cursor.old)
+            result cursor.new }
+    {
+        match tighter_rank(rank) {
+            Some(tighter) => self.after(cursor, tighter, first),
+            None => Ok(first),
+        }
+    }
+
+    /// What comes after an operand, up to the operators of this rank. Where no such operator comes,
+    /// all these ranks end at once.
+    #[cycle(level)]
+    #[tactic(auto, using(crate::proofs::Ranks::after_none), unfolding(crate::specs::code::Ranks::after_at, crate::specs::code::Ranks::operands_at))]
+    fn after(&self, cursor: &mut Cursor<'_>, rank: Rank, first: Expr) -> Result<Expr, Stop>
+        requires { Nests self.now.depth (F.pre self.now.unary) (F.post self.now.unary) }
+        ensures { Reads (after_at rank (spec.unary self.now.depth) first cursor.old)
+            result cursor.new }
+    {
+        if !binds(rank, cursor.next()) {
+            return Ok(first);
+        }
+        let first = self.after_tighter(cursor, rank, first)?;
+        let rest = self.operands(cursor, rank)?;
+        Ok(level(self.alloc, first, rest)?)
+    }
+
     /// Operands of one rank, joined by operators.
     #[cycle(level)]
-    #[tactic(auto, unfolding(sal_grammar::specs::Expressions::level_of, crate::specs::code::Ranks::level_at, crate::specs::code::Ranks::operand_at, crate::specs::code::Ranks::operands_at))]
+    #[tactic(auto, using(crate::proofs::Ranks::level_is))]
     fn level(&self, cursor: &mut Cursor<'_>, rank: Rank) -> Result<Expr, Stop>
         requires { Nests self.now.depth (F.pre self.now.unary) (F.post self.now.unary) }
         ensures { Reads (level_at rank (spec.unary self.now.depth) cursor.old) result cursor.new }
     {
-        let first = self.tighter(cursor, rank)?;
-        let rest = self.operands(cursor, rank)?;
-        Ok(level(self.alloc, first, rest)?)
+        let first = self.unary(cursor)?;
+        self.after(cursor, rank, first)
     }
 
     /// An expression, inside which all stands at this depth.
@@ -180,7 +211,8 @@ impl<F: Fn(Global, &mut Cursor<'_>, usize) -> Result<Expr, Stop>> Nest<F> {
             if !cursor.sees(Set::Comma) {
                 return Ok(found);
             }
-            found.push(self.next_expr(cursor)?)?;
+            let item = self.next_expr(cursor)?;
+            add(self.alloc, &mut found, item)?;
         }
         Ok(found)
     }
@@ -193,7 +225,8 @@ impl<F: Fn(Global, &mut Cursor<'_>, usize) -> Result<Expr, Stop>> Nest<F> {
             result cursor.new }
     {
         let mut found = List::new(self.alloc);
-        found.push(self.expr(cursor)?)?;
+        let item = self.expr(cursor)?;
+        add(self.alloc, &mut found, item)?;
         found.append(self.next_exprs(cursor)?)?;
         cursor.take(close)?;
         Ok(found)

@@ -1,6 +1,6 @@
 //! Trees that take no parser of what is inside.
 
-ghost use Rattle.std.specs.Prelude.{◌≡◌, IfOk, MatchResult};
+ghost use Rattle.std.specs.Prelude.{◌≡◌, ◌++◌, [], ◌∷◌, IfOk, MatchResult, OnOk};
 ghost use Rattle.sal_ast.specs.declared.expression.Expr.TheVariants as e;
 ghost use Rattle.sal_grammar.specs.Expressions as spec;
 ghost use Rattle.sal_grammar.specs.Tokens.{class_of};
@@ -11,6 +11,20 @@ use sal_grammar::{Class, Reason};
 use sal_reader::{Cursor, Set, Stop, Symbol};
 use sal_value::{Boxed, List, NoMemory};
 use std::alloc::Global;
+
+/// Puts an item at the end of a list. The first takes room for itself alone, since most lists of a
+/// program are short.
+pub fn add<A: Drop>(alloc: Global, found: &mut List<A>, item: A) -> Result<(), NoMemory>
+    ensures { OnOk result (found.new ≡ found.old ++ item ∷ []) }
+{
+    if !found.is_empty() {
+        return found.push(item);
+    }
+    let mut items = Vec::with_capacity(alloc, 1)?;
+    items.push_reserved(item);
+    *found = List::from_vec(items);
+    Ok(())
+}
 
 /// An operand alone is itself.
 pub fn level(alloc: Global, first: Expr, rest: List<Operand>) -> Result<Expr, NoMemory>

@@ -1,7 +1,7 @@
 //! How tightly operators bind.
 
 ghost use Rattle.std.specs.Prelude.{◌≡◌, ◌<◌, IfSome};
-ghost use Rattle.sal_expressions.specs.code.Ranks.{height, operators_of, tighter_rank};
+ghost use Rattle.sal_expressions.specs.code.Ranks.{and_binds, binds, equal_binds, or_binds, relation_binds, sum_binds, height, operators_of, tighter_rank};
 ghost use Rattle.sal_grammar.specs.Expressions as spec;
 ghost use Rattle.sal_reader.specs.Reads.{set_of};
 
@@ -45,6 +45,50 @@ pub fn operators(rank: Rank) -> Set
         Rank::Relation => Set::Relation,
         Rank::Sum => Set::Sum,
         Rank::Product => Set::Product,
+    }
+}
+
+fn sum_binds(class: Class) -> bool
+    ensures { result ≡ sum_binds class }
+{
+    Set::Sum.has(class) || Set::Product.has(class)
+}
+
+fn relation_binds(class: Class) -> bool
+    ensures { result ≡ relation_binds class }
+{
+    Set::Relation.has(class) || sum_binds(class)
+}
+
+fn equal_binds(class: Class) -> bool
+    ensures { result ≡ equal_binds class }
+{
+    Set::Equal.has(class) || relation_binds(class)
+}
+
+fn and_binds(class: Class) -> bool
+    ensures { result ≡ and_binds class }
+{
+    Set::And.has(class) || equal_binds(class)
+}
+
+fn or_binds(class: Class) -> bool
+    ensures { result ≡ or_binds class }
+{
+    Set::Or.has(class) || and_binds(class)
+}
+
+/// Whether a class is an operator of this rank or a tighter one.
+pub fn binds(rank: Rank, class: Class) -> bool
+    ensures { result ≡ binds rank class }
+{
+    match rank {
+        Rank::Or => or_binds(class),
+        Rank::And => and_binds(class),
+        Rank::Equal => equal_binds(class),
+        Rank::Relation => relation_binds(class),
+        Rank::Sum => sum_binds(class),
+        Rank::Product => Set::Product.has(class),
     }
 }
 

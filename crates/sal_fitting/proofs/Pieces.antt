@@ -1,5 +1,5 @@
 -- Typed arguments: those that are ready fit, and a reply of its type keeps them typed.
-use Rattle.std.proofs.Common.{◌≡◌, ℕ, ◌+◌, ◌-◌, Bool, true, false, cond, ◌&&◌, nat_eq, List, [], ◌∷◌, map, Option, Some, None, refl, sym, ap, subst, ◌∙◌, arith}
+use Rattle.std.proofs.Common.{◌≡◌, ℕ, suc, ◌+◌, ◌-◌, ◌≤◌, length, Bool, true, false, cond, ◌&&◌, nat_eq, List, [], ◌∷◌, map, Option, Some, None, refl, sym, ap, subst, ◌∙◌, arith}
 use Rattle.std.specs.Prelude.{nat_le}
 use Rattle.std.specs.List.{list_all}
 use Rattle.std.proofs.lemmas.Bool.{eqb-true, eq-eqb, le-leb}
@@ -25,7 +25,7 @@ use Rattle.sal_handler.specs.WellFormed.{EachOf, IsLegalPiece}
 use Rattle.sal_handler.specs.Calls.{Meaning}
 use Rattle.sal_types.specs.declared.signature.Signature.{Signature}
 use Rattle.sal_fitting.specs.Messages.{is_printable, may_print, IsPiece, ArePieces, ArePrintable, IsTypedTo, join_sort, IsSlotOf}
-use Rattle.sal_fitting.specs.Runs.{FitsTo}
+use Rattle.sal_fitting.specs.Runs.{FitsTo, HasArguments}
 use Rattle.sal_fitting.specs.Signatures.{Signatures, signature_at, void_sort, are_of_sorts, fits_signature, Agrees}
 
 pub both : (a b : Bool) → a ≡ true → b ≡ true → a && b ≡ true
@@ -163,3 +163,20 @@ legal_printed waits (p ∷ q ∷ ps) h = absurd h
 pub args_legal : (sigs : Signatures) (owes : Reply → Sort → Type 0) (waits : ℕ → Sort → Type 0) (t : Target) (m : Message) → IsTypedTo sigs owes waits t m → EachOf IsLegalPiece m.args
 args_legal sigs owes waits (target.Actor n) m h = legal_pieces waits h.signature.params m.args h.args
 args_legal sigs owes waits target.Output m h = legal_printed waits m.args h.args
+
+-- ---- how many arguments there are
+
+as_many : (waits : ℕ → Sort → Type 0) (ts : List Sort) (ps : List Piece) → ArePieces waits ts ps → length ps ≡ length ts
+as_many waits [] [] h = refl
+as_many waits [] (p ∷ ps) h = absurd h
+as_many waits (t ∷ ts) [] h = absurd h
+as_many waits (t ∷ ts) (p ∷ ps) h = ap suc (as_many waits ts ps h.1)
+
+few_printed : (waits : ℕ → Sort → Type 0) (ps : List Piece) → ArePrintable waits ps → length ps ≤ 1
+few_printed waits [] h = omega arith
+few_printed waits (p ∷ []) h = omega arith
+few_printed waits (p ∷ q ∷ ps) h = absurd h
+
+pub has_arguments : (sigs : Signatures) (owes : Reply → Sort → Type 0) (waits : ℕ → Sort → Type 0) (t : Target) (m : Message) → IsTypedTo sigs owes waits t m → HasArguments sigs t m
+has_arguments sigs owes waits (target.Actor n) m h = (h.signature, (h.is, as_many waits h.signature.params m.args h.args))
+has_arguments sigs owes waits target.Output m h = few_printed waits m.args h.args

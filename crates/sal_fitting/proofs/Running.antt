@@ -36,7 +36,7 @@ use Rattle.sal_fitting.specs.Programs.{or_void, signature_of, signature_in, fiel
 use Rattle.sal_fitting.specs.Runs.{BeginsTyped, IsResult, HasPost, IsAnswerToPost, AllFits, RunsKeepTypes}
 use Rattle.sal_fitting.specs.Signatures.{Signatures, migrate_signature, signature_at, fits_signature, fits_sorts, Agrees}
 use Rattle.sal_fitting.proofs.First.{each_of_one, kept_first, led}
-use Rattle.sal_fitting.proofs.Pieces.{ready_fits, all_known, args_legal}
+use Rattle.sal_fitting.proofs.Pieces.{ready_fits, all_known, args_legal, has_arguments}
 use Rattle.sal_fitting.proofs.Giving.{Sorts, Owes, Waits, MessageIn, JoinIn, AnswerIn}
 use Rattle.sal_fitting.proofs.Stepping.{ActorIn, CreationIn, Typed, Promise, step_typed}
 
@@ -112,6 +112,7 @@ module _ (p : Meaning) (sigs : Signatures) (agrees : Agrees sigs p) where
   all_fit ss c t = record {
     messages = λ key m is r. ready_fits p sigs agrees (Owes t.sorts) (Waits t.sorts m.maker) m.target m (t.typed.waiting.messages.at key m is) r;
     legal = λ key m is. args_legal sigs (Owes t.sorts) (Waits t.sorts m.maker) m.target m (t.typed.waiting.messages.at key m is);
+    arguments = λ key m is. has_arguments sigs (Owes t.sorts) (Waits t.sorts m.maker) m.target m (t.typed.waiting.messages.at key m is);
     states = λ key a is. agrees.states a.0.behavior a.0.fields ∙ (t.typed.actors.at key a is).fields;
     names = λ key a is. (t.typed.actors.at key a is).name;
     creations = λ key x is. agrees.states x.1.behavior x.1.fields ∙ (t.typed.creations.at key x is).fields;

@@ -1,5 +1,5 @@
 -- Where handlers keep types, everything fits in every run.
-use Rattle.std.specs.Prelude.{◌≡◌, ℕ, ◌⊎◌, true, List, [], ◌∷◌, Option, Some, None}
+use Rattle.std.specs.Prelude.{◌≡◌, ℕ, ◌≤◌, ◌⊎◌, true, List, [], ◌∷◌, length, Option, Some, None}
 use Rattle.std.specs.FinMap as fm
 use Rattle.sal_value.specs.declared.name.Name.{Name}
 use Rattle.sal_value.specs.declared.value.Sort.{Sort}
@@ -41,6 +41,11 @@ abbrev pub FitsTo : Meaning → Target → Message → Type 0
 FitsTo p (target.Actor n) m = p.fits_call m.behavior m.handler (known_values m.args) ≡ true
 FitsTo p target.Output m = fits_print m.behavior m.handler (known_values m.args) ≡ true
 
+-- a message to an actor goes to a handler that there is, and has as many arguments as it takes; what is printed is at most one
+abbrev pub HasArguments : Signatures → Target → Message → Type 0
+HasArguments sigs (target.Actor n) m = (g : Signature) × ((signature_at sigs m.behavior m.handler ≡ Some g) × (length m.args ≡ length g.params))
+HasArguments sigs target.Output m = length m.args ≤ 1
+
 -- ---- answers
 
 -- a result of this type
@@ -70,13 +75,15 @@ pub record IsAnswerToPost (sigs : Signatures) (ss : List Step) (x : ℕ × Value
 
 -- ---- the law
 
--- After these steps each ready message fits, and each state. Known arguments are legal, actors' names have
--- spellings, and answers are of the results of the posts' handlers.
+-- After these steps each ready message fits, and each state. Each pending message has as many arguments as its handler takes, and
+-- the known ones are legal. Actors' names have spellings, and answers are of the results of the posts' handlers.
 pub record AllFits (p : Meaning) (sigs : Signatures) (ss : List Step) (c : Configuration) : Type 0 where
   pub messages : (key : TableKey) (m : Message) → fm.get c.waiting.messages key ≡ Some m
       → is_ready m ≡ true → FitsTo p m.target m
   pub legal : (key : TableKey) (m : Message) → fm.get c.waiting.messages key ≡ Some m
       → EachOf IsLegalPiece m.args
+  pub arguments : (key : TableKey) (m : Message) → fm.get c.waiting.messages key ≡ Some m
+      → HasArguments sigs m.target m
   pub states : (key : TableKey) (a : Actor × ℕ) → fm.get c.actors key ≡ Some a
       → p.fits_state a.0.behavior a.0.fields ≡ true
   pub names : (key : TableKey) (a : Actor × ℕ) → fm.get c.actors key ≡ Some a

@@ -5,7 +5,7 @@ ghost use Rattle.sal_parse.specs.code.Parts as parts;
 ghost use Rattle.sal_reader.specs.Reads.{Reads};
 
 use sal_ast::{Aim, Arg, Ident, Property, Send, Stage};
-use sal_expressions::{after_name, expr, name, unless_sees};
+use sal_expressions::{add, after_name, expr, name, unless_sees};
 use sal_reader::{Cursor, Set, Stop};
 use sal_value::List;
 use std::alloc::Global;
@@ -40,7 +40,8 @@ fn next_arguments(alloc: Global, cursor: &mut Cursor<'_>, depth: usize) -> Resul
         if !cursor.sees(Set::Comma) {
             return Ok(found);
         }
-        found.push(next_argument(alloc, cursor, depth)?)?;
+        let item = next_argument(alloc, cursor, depth)?;
+        add(alloc, &mut found, item)?;
     }
     Ok(found)
 }
@@ -50,7 +51,8 @@ fn some_arguments(alloc: Global, cursor: &mut Cursor<'_>, depth: usize) -> Resul
     ensures { Reads (parts.some_arguments depth cursor.old) result cursor.new }
 {
     let mut found = List::new(alloc);
-    found.push(argument(alloc, cursor, depth)?)?;
+    let item = argument(alloc, cursor, depth)?;
+    add(alloc, &mut found, item)?;
     let others = next_arguments(alloc, cursor, depth)?;
     cursor.take(Set::CloseParen)?;
     found.append(others)?;
@@ -86,7 +88,8 @@ fn next_names(alloc: Global, cursor: &mut Cursor<'_>) -> Result<List<Ident>, Sto
         if !cursor.sees(Set::Comma) {
             return Ok(found);
         }
-        found.push(next_name(alloc, cursor)?)?;
+        let item = next_name(alloc, cursor)?;
+        add(alloc, &mut found, item)?;
     }
     Ok(found)
 }
@@ -96,7 +99,8 @@ fn names(alloc: Global, cursor: &mut Cursor<'_>) -> Result<List<Ident>, Stop>
     ensures { Reads (parts.names cursor.old) result cursor.new }
 {
     let mut found = List::new(alloc);
-    found.push(name(alloc, cursor)?)?;
+    let item = name(alloc, cursor)?;
+    add(alloc, &mut found, item)?;
     let others = next_names(alloc, cursor)?;
     cursor.take(Set::CloseParen)?;
     found.append(others)?;
@@ -145,7 +149,8 @@ fn properties(alloc: Global, cursor: &mut Cursor<'_>, depth: usize) -> Result<Li
         if !cursor.sees(Set::Colon) {
             return Ok(found);
         }
-        found.push(property(alloc, cursor, depth)?)?;
+        let item = property(alloc, cursor, depth)?;
+        add(alloc, &mut found, item)?;
     }
     Ok(found)
 }

@@ -14,7 +14,7 @@ use crate::turn::Turn;
 use crate::variables::{all_indexes, assigned, declare, one_less, until_semicolon};
 use sal_ast::{Aim, Chain, Expr, Ident, Stage, Stmt, Suffix, TypeName};
 use sal_expressions::{
-    after_dot, closed_postfix, expr, name, other_postfix, pairs, suffixed, suffixes, type_of,
+    add, after_dot, closed_postfix, expr, name, other_postfix, pairs, suffixed, suffixes, type_of,
     unless_sees,
 };
 use sal_grammar::Reason;
@@ -74,7 +74,8 @@ impl<F: Fn(Global, &mut Cursor<'_>, usize) -> Result<Stmt, Stop>> Nest<F> {
             if !cursor.sees(Set::FirstStmt) {
                 return Ok(found);
             }
-            found.push(self.inner(cursor)?)?;
+            let item = self.inner(cursor)?;
+            add(self.alloc, &mut found, item)?;
         }
         Ok(found)
     }
@@ -147,7 +148,8 @@ impl<F: Fn(Global, &mut Cursor<'_>, usize) -> Result<Stmt, Stop>> Nest<F> {
             if !cursor.sees(Set::ThenSign) {
                 return Ok(found);
             }
-            found.push(self.next_stage(cursor)?)?;
+            let item = self.next_stage(cursor)?;
+            add(self.alloc, &mut found, item)?;
         }
         Ok(found)
     }
@@ -179,10 +181,10 @@ impl<F: Fn(Global, &mut Cursor<'_>, usize) -> Result<Stmt, Stop>> Nest<F> {
         ensures { Reads (spec.chain_stmt self.now.depth (inner self.now.depth) first cursor.old) result cursor.new }
     {
         let mut stages = List::new(self.alloc);
-        stages.push(first)?;
+        add(self.alloc, &mut stages, first)?;
         for _turn in 0..turns(cursor) {
             match self.tail_turn(cursor)? {
-                Turn::Next(stage) => stages.push(stage)?,
+                Turn::Next(stage) => add(self.alloc, &mut stages, stage)?,
                 Turn::End(passed) => {
                     let chain = Chain { stages };
                     return Ok(Stmt::Chain { chain, passed });
@@ -201,7 +203,8 @@ impl<F: Fn(Global, &mut Cursor<'_>, usize) -> Result<Stmt, Stop>> Nest<F> {
         let name = name(self.alloc, cursor)?;
         cursor.take(Set::Assign)?;
         let mut stages = List::new(self.alloc);
-        stages.push(self.stage(cursor)?)?;
+        let item = self.stage(cursor)?;
+        add(self.alloc, &mut stages, item)?;
         let others = self.next_stages(cursor)?;
         cursor.take(Set::Semicolon)?;
         stages.append(others)?;
@@ -312,7 +315,7 @@ impl<F: Fn(Global, &mut Cursor<'_>, usize) -> Result<Stmt, Stop>> Nest<F> {
         let index = expr(self.alloc, cursor, one_less(self.depth))?;
         cursor.take(Set::CloseBracket)?;
         let mut found = List::new(self.alloc);
-        found.push(Suffix::Index(at, index))?;
+        add(self.alloc, &mut found, Suffix::Index(at, index))?;
         self.after_variable(cursor, None, name, found)
     }
 

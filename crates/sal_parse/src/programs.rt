@@ -7,7 +7,7 @@ ghost use Rattle.sal_reader.specs.Reads.{Reads};
 use crate::statement::stmt;
 use crate::variables::initial;
 use sal_ast::{Behavior, Ident, Member, Param, Program, Stmt, TypeName};
-use sal_expressions::{name, pairs, type_of};
+use sal_expressions::{add, name, pairs, type_of};
 use sal_grammar::Reason;
 use sal_reader::{Cursor, Set, Stop, Symbol};
 use sal_value::List;
@@ -87,7 +87,8 @@ fn stmt_list(alloc: Global, cursor: &mut Cursor<'_>, depth: usize) -> Result<Lis
         if !cursor.sees(Set::FirstStmt) {
             return Ok(found);
         }
-        found.push(stmt(alloc, cursor, depth)?)?;
+        let item = stmt(alloc, cursor, depth)?;
+        add(alloc, &mut found, item)?;
     }
     Ok(found)
 }

@@ -60,6 +60,14 @@ fn join_lists<T: Drop>(list: &mut LinkedList<T>, more: LinkedList<T>)
     let _ = list.append(&mut more);
 }
 
+// Whether so many more can be joined to the list.
+fn fits<T>(list: &LinkedList<T>, count: usize) -> bool
+    requires { count < 2 ^ 63 }
+    ensures { IsTrue result ↔ (length list.now + count < 2 ^ 63) }
+{
+    list.len() + count < LIMIT
+}
+
 fn copies_of<T: CloneIn>(alloc: Global, list: &LinkedList<T>) -> Result<List<T>, NoMemory>
     ensures { IfOk result (λ copies. copies ≡ list.now) }
 {
@@ -142,7 +150,7 @@ impl<T: Drop> Queues<T> {
         ensures err { OnErr result (self.new ≡ self.old) }
     {
         if let Some(list) = self.lists.get(name) {
-            if LIMIT <= list.len() + count {
+            if !fits(list, count) {
                 return Err(NoMemory);
             }
             return Ok(());

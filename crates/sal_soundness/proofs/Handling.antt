@@ -69,7 +69,7 @@ use Rattle.sal_soundness.proofs.Statements as statements
 
 -- ---- what fits is typed and legal
 
-all_there : (os : List (Option MeantSort)) (ts : List MeantSort) → all_some os ≡ Some ts → os ≡ map (λ s. Some s) ts
+pub all_there : (os : List (Option MeantSort)) (ts : List MeantSort) → all_some os ≡ Some ts → os ≡ map (λ s. Some s) ts
 all_there [] ts e = ap (map (λ s. Some s)) (some_is e)
 all_there (o ∷ os) ts e = by o (all_some os) refl (λ us i. all_there os us i) e
   where
@@ -110,7 +110,7 @@ args_typed bs (f ∷ fs) (y ∷ ys) e =
     let more = args_typed bs fs ys q.1 in
     (((o.0, (o.1.0, o.1.1.0)), more.0), (o.1.1.1, more.1))
 
-signature_parts : (o : Option (List MeantSort)) (result : MeantSort) (g : Signature) → signature_with o (Some result) ≡ Some g → (o ≡ Some g.params) × (result ≡ g.result)
+pub signature_parts : (o : Option (List MeantSort)) (result : MeantSort) (g : Signature) → signature_with o (Some result) ≡ Some g → (o ≡ Some g.params) × (result ≡ g.result)
 signature_parts None result g e = absurd cc
 signature_parts (Some ts) result g e = let same : record { params = ts; result = result } ≡ g = some_is e in (ap (λ (s : Signature). Some s.params) same, ap (λ (s : Signature). s.result) same)
 

@@ -1,6 +1,7 @@
 mod Anywhere
 mod Assigning
 mod Beginning
+mod Counting
 mod Ending
 mod Executing
 mod Handling

@@ -1,11 +1,13 @@
 -- What holds of accepted programs: their handlers, constructors and starts keep types, and so do their runs.
-use Rattle.std.specs.Prelude.{◌≡◌, ◌≢◌, true, List, [], Ok, Some}
+use Rattle.std.specs.Prelude.{◌≡◌, ◌≢◌, ◌≤◌, true, List, [], length, Ok, Some}
+use Rattle.std.specs.FinMap as fm
 use Rattle.std.specs.List.{list_any}
 use Rattle.sal_value.specs.declared.value.Base.TheVariants as base
 use Rattle.sal_value.specs.declared.value.Value.{Value}
 use Rattle.sal_value.specs.declared.value.Value.TheVariants.{Array}
 use Rattle.sal_ast.specs.declared.program.Program.{Program}
 use Rattle.sal_ast.specs.declared.statement.Stmt.{Stmt}
+use Rattle.sal_mail.specs.declared.message.Message.{Message}
 use Rattle.sal_types.specs.Endings.{surely_ends}
 use Rattle.sal_types.specs.Programs.{IsAccepted}
 use Rattle.sal_handler.specs.declared.state.Flow.{Flow}
@@ -17,6 +19,7 @@ use Rattle.sal_handler.specs.Handler.{new_fields, handle, begin}
 use Rattle.sal_handler.specs.Fits.{fits_sort, meaning_of}
 use Rattle.sal_source.specs.declared.state.Setup.{Setup}
 use Rattle.sal_source.specs.declared.state.Step.{Step}
+use Rattle.sal_source.specs.Table.{TableKey}
 use Rattle.sal_source.specs.Configuration.{Configuration}
 use Rattle.sal_source.specs.Run.{play}
 use Rattle.sal_fitting.specs.Handlers.{HandlersKeepTypes}
@@ -56,3 +59,9 @@ abbrev pub RunsOfAcceptedFit : Type 0
 RunsOfAcceptedFit =
     (p : Program) (setup : Setup) → IsAccepted p → AreWords setup.words → (ss : List Step) (end : Configuration) → play p setup ss ≡ Some end
     → AllFits (meaning_of p) (signatures p) ss end
+
+-- Each pending message has at most 16 arguments.
+abbrev pub MessagesStayShort : Type 0
+MessagesStayShort =
+    (p : Program) (setup : Setup) → IsAccepted p → AreWords setup.words → (ss : List Step) (end : Configuration) → play p setup ss ≡ Some end
+    → (key : TableKey) (m : Message) → fm.get end.waiting.messages key ≡ Some m → length m.args ≤ 16

@@ -1,6 +1,6 @@
 //! Laws of accepted programs: functions without work, whose contracts are the laws.
 
-ghost use Rattle.sal_soundness.specs.Laws.{BodiesThatEndReturn, ConstructorsMakeFields, HandlersOfAcceptedKeepTypes, AcceptedBeginTyped, RunsOfAcceptedFit};
+ghost use Rattle.sal_soundness.specs.Laws.{BodiesThatEndReturn, ConstructorsMakeFields, HandlersOfAcceptedKeepTypes, AcceptedBeginTyped, RunsOfAcceptedFit, MessagesStayShort};
 
 /// A body that surely ends doesn't fall off its end.
 pub fn bodies_that_end_return()
@@ -25,4 +25,9 @@ pub fn programs_begin_typed()
 /// In every run each ready message fits, and so do all fields and answers.
 pub fn runs_fit()
     ensures { RunsOfAcceptedFit }
+{}
+
+/// Each pending message of a run has at most 16 arguments.
+pub fn messages_stay_short()
+    ensures { MessagesStayShort }
 {}

@@ -4,6 +4,6 @@
 mod law;
 
 pub use law::{
-    bodies_that_end_return, constructors_make_fields, handlers_keep_types, programs_begin_typed,
-    runs_fit,
+    bodies_that_end_return, constructors_make_fields, handlers_keep_types, messages_stay_short,
+    programs_begin_typed, runs_fit,
 };

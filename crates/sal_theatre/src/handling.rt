@@ -1,9 +1,12 @@
 //! A step: a ready message is printed or handled.
 
-ghost use Rattle.std.specs.Prelude.{◌≡◌, [], ◌∷◌, ◌++◌, ◌≤◌, true, IfOk, OnOk};
+ghost use Rattle.std.specs.Prelude.{◌≡◌, [], ◌∷◌, ◌++◌, ◌≤◌, map, true, if◌then◌else◌, IfOk, OnOk};
 ghost use Rattle.sal_handler.specs.declared.turn.Outcome.TheVariants.{Done};
 ghost use Rattle.sal_node.specs.Links.{has_few_nodes};
-ghost use Rattle.sal_mail.specs.declared.fault.FaultKind.{FaultKind};
+ghost use Rattle.sal_source.specs.declared.state.Step.TheVariants.{Handle};
+ghost use Rattle.sal_source.specs.Step.{is_migrate_message, understands, answer_replies};
+ghost use Rattle.sal_desk.specs.code.Effects.{MayTake};
+ghost use Rattle.sal_routing.specs.Routing.{answer_made};
 ghost use Rattle.sal_routing.specs.State as spec;
 ghost use Rattle.sal_routing.specs.Handling as handling;
 ghost use Rattle.sal_theatre.specs.code.Programs.{IsRunner};
@@ -141,7 +144,7 @@ fn take_effect<R: Runner>(
     message: &Message,
     effects: Effects,
 ) -> Result<(), NoMemory>
-    requires takes { MayTake effects actor }
+    requires takes { MayTake effects.fields effects.serial effects.messages effects.joins actor }
     requires plan { has_few_nodes desk.old.theatre.plan ≡ true }
     ensures { OnOk result (desk.new ≡ handling.take_effect (R.meaning runner.now) effects message.now actor desk.old) }
 {
@@ -195,6 +198,91 @@ fn migrate_after(
         Some(to) => {
             move_to(alloc, desk, name, to)?;
             Ok(())
+        }
+    }
+}
+
+/// Whether the actor understands the message.
+fn understands(actor: &Standing, message: &Message) -> bool
+    ensures { result ≡ understands (spec.actor_of actor.now) message.now }
+{
+    message.behavior == actor.resident().behavior || is_migrate(message)
+}
+
+/// The number by which the runner's test knows `migrate`, or the behaviour's.
+fn behavior_or_migrate(behavior: u16, handler: u16) -> u16
+    ensures { result ≡ behavior_or_migrate behavior handler }
+{
+    if handler == MIGRATE { OUTPUT } else { behavior }
+}
+
+/// Whether the call fits.
+#[tactic(auto, unfolding(sal_routing::specs::Handling::may_be_called))]
+fn may_be_called<R: Runner>(runner: &R, turn: &Turn<'_>) -> bool
+    ensures { result ≡ handling.may_be_called (R.meaning runner.now) (call turn.now) }
+{
+    runner.fits_state(turn.behavior, turn.fields)
+        && runner.fits_call(
+            behavior_or_migrate(turn.behavior, turn.handler),
+            turn.handler,
+            turn.args,
+        )
+}
+
+/// What the handler of the message does, where its call fits.
+fn outcome_of<R: Runner>(
+    alloc: Global,
+    runner: &R,
+    desk: &Desk<'_>,
+    actor: &Standing,
+    message: &Message,
+) -> Result<Option<Outcome>, NoMemory>
+    requires fresh { desk.now.theatre.next_anon ≤ 18446744073709550591 }
+    ensures { IfOk result (λ o. o ≡ (if handling.may_be_called (R.meaning runner.now) (handling.call_at message.now actor.now desk.now.theatre) then Some ((R.meaning runner.now).outcome (handling.call_at message.now actor.now desk.now.theatre)) else None)) }
+{
+    let args = message.known_values(alloc)?;
+    let actor = actor.resident();
+    let turn = Turn {
+        me: &actor.name,
+        behavior: actor.behavior,
+        fields: &actor.fields,
+        handler: message.handler,
+        args: &args,
+        reply: &message.reply,
+        serial: actor.serial,
+        place: u32::from(desk.me()),
+        fresh: desk.next_anon(),
+    };
+    if !may_be_called(runner, &turn) {
+        return Ok(None);
+    }
+    Ok(Some(runner.handle(alloc, &turn)?))
+}
+
+/// The message is handled by the actor.
+#[tactic(auto, unfolding(sal_routing::specs::Handling::handle))]
+fn handle<R: Runner>(
+    alloc: Global,
+    runner: &R,
+    desk: &mut Desk<'_>,
+    actor: Standing,
+    message: &Message,
+) -> Result<(), NoMemory>
+    requires runner { IsRunner (R.meaning runner.now) }
+    requires fresh { desk.old.theatre.next_anon ≤ 18446744073709550591 }
+    requires plan { has_few_nodes desk.old.theatre.plan ≡ true }
+    ensures { OnOk result (desk.new ≡ handling.handle (R.meaning runner.now) message.now actor desk.old) }
+{
+    if !understands(&actor, message) {
+        return fail(alloc, desk, message, FaultKind::NoHandler);
+    }
+    match outcome_of(alloc, runner, desk, &actor, message)? {
+        None => Ok(()),
+        Some(Outcome::Trap(trap)) => fail(alloc, desk, message, FaultKind::Trap(trap)),
+        Some(Outcome::Done(effects)) => {
+            let name = actor.resident().name.clone_in(alloc)?;
+            take_effect(alloc, runner, desk, actor, message, effects)?;
+            migrate_after(alloc, desk, message, &name)
         }
     }
 }

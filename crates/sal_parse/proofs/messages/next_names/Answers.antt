@@ -6,6 +6,6 @@ use Rattle.sal_parse.proofs.messages.next_names.Goals as goal
 
 pub loop-turn-preserved : goal.loop-turn-preserved
 loop-turn-preserved c =
-    let e = turn_ok _ _ c.loop-turn._turn is.comma (next_name) c.loop-turn.found c.loop-turn.cursor c.next_name.new.cursor c.in_ok-next_name.field-0
-    c.loop-turn-test.true c.loop-turn.invariant (search rules) c.in_ok-next_name.ensures in
-    rw c.in_ok-push.ensures.ok e
+    let e = turn_ok _ _ c.loop-turn._turn is.comma (next_name) c.loop-turn.found c.loop-turn.cursor c.next_name.new.cursor c.in_ok-item.item
+    c.loop-turn-test.true c.loop-turn.invariant (search rules) c.in_ok-item.ensures in
+    rw c.in_ok-add.ensures e

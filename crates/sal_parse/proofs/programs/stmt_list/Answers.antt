@@ -12,9 +12,9 @@ returns-then-not-sees c =
 
 pub loop-turn-preserved : goal.loop-turn-preserved
 loop-turn-preserved c =
-    let e = turn_ok _ _ c.loop-turn._turn is.first_stmt (stmt c.args.depth) c.loop-turn.found c.loop-turn.cursor c.stmt.new.cursor c.in_ok-stmt.field-0
-    c.loop-turn-test.true c.loop-turn.invariant (search rules) c.in_ok-stmt.ensures in
-    rw c.in_ok-push.ensures.ok e
+    let e = turn_ok _ _ c.loop-turn._turn is.first_stmt (stmt c.args.depth) c.loop-turn.found c.loop-turn.cursor c.stmt.new.cursor c.in_ok-item.item
+    c.loop-turn-test.true c.loop-turn.invariant (search rules) c.in_ok-item.ensures in
+    rw c.in_ok-add.ensures e
 
 pub returns : goal.returns
 unfolding stmt_list

@@ -1,8 +1,7 @@
-use Rattle.std.proofs.Common.{◌≡◌, Some, is_some, sym, ap, subst, ◌∙◌}
-use Rattle.std.specs.Option.{option_map}
+use Rattle.std.proofs.Common.{is_some, sym, ap, ◌∙◌}
 use Rattle.std.specs.FinMap as fm
-use Rattle.sal_entries.specs.Entries.{values, overlaid, HasRoomFor}
-use Rattle.sal_entries.proofs.Laws.{room-at, has-first, shorter-popped, room-popped, committed, says-value, overlaid-none}
+use Rattle.sal_entries.specs.Entries.{values}
+use Rattle.sal_entries.proofs.Laws.{room-at, has-first, shorter-popped, absorb-turn, overlaid-none}
 use Rattle.sal_entries.proofs.entries.Entries.absorb.Goals as goal
 
 pub change-requires : goal.change-requires
@@ -15,16 +14,8 @@ loop-key-smaller g c = shorter-popped c.loop-key.left c.pop_first.new.self (g.K.
 
 pub loop-key-preserved : goal.loop-key-preserved
 loop-key-preserved g c =
-    let left = c.loop-key.left in
-    let more = c.pop_first.new.self in
-    let old = c.loop-key.self in
-    let k = g.K.Keyed.words c.in-Some.key in
-    let o = c.in-Some.value in
-    subst (λ t. HasRoomFor more t × (overlaid more (values t) ≡ overlaid c.args.more (values c.args.self.now)))
-    (sym c.change.ensures) (
-      room-popped left more old k o (option_map Some o) c.in-Some.ensures.first c.loop-key.invariant.0,
-      sym (committed left more old k o (option_map Some o) (says-value o) c.in-Some.ensures.first) ∙ c.loop-key.invariant.1,
-    )
+    absorb-turn c.loop-key.left c.pop_first.new.self c.loop-key.self c.change.new.self (g.K.Keyed.words c.in-Some.key) c.in-Some.value _
+    c.in-Some.ensures.first c.change.ensures c.loop-key.invariant.0 c.loop-key.invariant.1
 
 pub returns : goal.returns
 returns g c = sym (overlaid-none c.loop-key.left (values c.loop-key.self) c.in_default.ensures.none.0) ∙ c.loop-key.invariant.1

@@ -1,6 +1,6 @@
-use Rattle.std.proofs.Common.{◌≡◌, sym, ap, subst, ◌∙◌, refl}
-use Rattle.sal_entries.specs.Entries.{values, with_room, HasRoomFor, word_entries}
-use Rattle.sal_entries.proofs.Laws.{HasRoomBut, room-start, room-step, room-end, room-itself, room-more, room-through, values-with_room}
+use Rattle.std.proofs.Common.{sym, ap, subst, ◌∙◌, refl}
+use Rattle.sal_entries.specs.Entries.{with_room, word_entries}
+use Rattle.sal_entries.proofs.Laws.{HasRoomBut, room-start, room-turn, room-end, room-itself}
 use Rattle.sal_entries.proofs.entries.Entries.make_room_for.Goals as goal
 
 pub loop-key-init : goal.loop-key-init
@@ -12,15 +12,10 @@ loop-key-init g c = (
 
 pub loop-key-preserved : goal.loop-key-preserved
 loop-key-preserved g c =
-    let old = c.loop-key.self in
-    let k = g.K.Keyed.words c.in-Some.key.now in
-    let rest = word_entries g.K.Keyed.words c.next.new.self in
-    subst (λ t. HasRoomBut rest c.args.more.now t × HasRoomFor c.args.self.now t × (values t ≡ values c.args.self.now))
-    (sym (c.in_ok-make_room.ensures.ok ∙ ap (λ n. with_room (g.K.Keyed.words n) old) c.in_ok-copy_in.ensures)) (
-      room-step (k, c.in-Some.field-0-1.now) rest c.args.more.now old (subst (λ l. HasRoomBut (word_entries g.K.Keyed.words l) c.args.more.now old) c.in-Some.ensures.steps c.loop-key.invariant.0),
-      room-through c.args.self.now old (with_room k old) c.loop-key.invariant.1 (room-more old k),
-      values-with_room old k ∙ c.loop-key.invariant.2,
-    )
+    room-turn (g.K.Keyed.words c.in-Some.key.now, c.in-Some.field-0-1.now) (word_entries g.K.Keyed.words c.next.new.self) c.args.more.now c.args.self.now c.loop-key.self c.make_room.new.self
+    (c.in_ok-make_room.ensures.ok ∙ ap (λ n. with_room (g.K.Keyed.words n) c.loop-key.self) c.in_ok-copy_in.ensures)
+    (subst (λ l. HasRoomBut (word_entries g.K.Keyed.words l) c.args.more.now c.loop-key.self) c.in-Some.ensures.steps c.loop-key.invariant.0)
+    c.loop-key.invariant.1 c.loop-key.invariant.2
 
 pub returns-clause-ok : goal.returns-clause-ok
 returns-clause-ok g c =

@@ -10,9 +10,9 @@ operands-returns-then-not-sees g t c =
 
 pub operands-loop-turn-preserved : goal.operands-loop-turn-preserved
 operands-loop-turn-preserved g t c =
-    let e = turn_ok _ _ c.loop-turn._turn (operators_of c.args.rank) (operand_at c.args.rank (unary c.args.self.now.depth)) c.loop-turn.found c.loop-turn.cursor c.operand.new.cursor c.in_ok-operand.field-0
-    c.loop-turn-test.true c.loop-turn.invariant (seen _ _ _ _ _ c.operators.ensures c.sees.ensures c.if-not-sees.false) c.in_ok-operand.ensures in
-    rw c.in_ok-push.ensures.ok e
+    let e = turn_ok _ _ c.loop-turn._turn (operators_of c.args.rank) (operand_at c.args.rank (unary c.args.self.now.depth)) c.loop-turn.found c.loop-turn.cursor c.operand.new.cursor c.in_ok-item.item
+    c.loop-turn-test.true c.loop-turn.invariant (seen _ _ _ _ _ c.operators.ensures c.sees.ensures c.if-not-sees.false) c.in_ok-item.ensures in
+    rw c.in_ok-add.ensures e
 
 pub operands-returns : goal.operands-returns
 unfolding operands_at

@@ -11,7 +11,7 @@ loop-turn-preserved g c =
     let x = c.in_ok-stage.ensures ∙ ap (λ (z : Turn). Ok (z, c.tail_turn.new.cursor)) c.in-Next.is in
     let e = tail_next _ _ c.loop-turn._turn (stage_by c.args.self.now.depth (inner c.args.self.now.depth)) c.loop-turn.stages c.loop-turn.cursor c.tail_turn.new.cursor
     c.in-Next.stage c.loop-turn-test.true c.loop-turn.invariant x in
-    rw c.in_ok-push-in-Next.ensures.ok e
+    rw c.in_ok-add-in-Next.ensures e
 
 pub returns-in-End : goal.returns-in-End
 returns-in-End g c =

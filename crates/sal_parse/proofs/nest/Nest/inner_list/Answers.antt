@@ -12,9 +12,9 @@ returns-then-not-sees g c =
 
 pub loop-turn-preserved : goal.loop-turn-preserved
 loop-turn-preserved g c =
-    let e = turn_ok _ _ c.loop-turn._turn is.first_stmt (inner c.args.self.now.depth) c.loop-turn.found c.loop-turn.cursor c.inner.new.cursor c.in_ok-inner.field-0
-    c.loop-turn-test.true c.loop-turn.invariant (search rules) c.in_ok-inner.ensures in
-    rw c.in_ok-push.ensures.ok e
+    let e = turn_ok _ _ c.loop-turn._turn is.first_stmt (inner c.args.self.now.depth) c.loop-turn.found c.loop-turn.cursor c.inner.new.cursor c.in_ok-item.item
+    c.loop-turn-test.true c.loop-turn.invariant (search rules) c.in_ok-item.ensures in
+    rw c.in_ok-add.ensures e
 
 pub returns : goal.returns
 unfolding inner_list

@@ -17,7 +17,7 @@ pub returns-in-Some-clause-fits : goal.returns-in-Some-clause-fits
 returns-in-Some-clause-fits g c =
     let k = key c.args.name.now in
     let there = c.in-Some.ensures.value ∙ got key c.args.name.now c.self.inside.lists.entries ∙ ap (λ t. fm.get t k) c.self.view_is in
-    subst (λ o. length (unwrap_or o []) + c.args.count < 2 ^ 63) there (omega (arith, c.len.ensures.value, c.if-len-count-ge-LIMIT.false))
+    subst (λ o. length (unwrap_or o []) + c.args.count < 2 ^ 63) there (c.fits.ensures.0 c.if-not-fits.false)
 
 pub returns-clause-room : goal.returns-clause-room
 returns-clause-room g c =
