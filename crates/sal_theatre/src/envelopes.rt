@@ -1,38 +1,40 @@
 //! Envelopes that arrived.
 
-ghost use Rattle.std.specs.Prelude.{◌≡◌, [], ◌∷◌, ◌≤◌, true, Ok, Err, IfOk, OnOk, option_map};
-ghost use Rattle.std.specs.Option.{option_copied};
+ghost use Rattle.std.specs.Prelude.{◌≡◌, ◌+◌, [], ◌∷◌, true, slice_get, Some, IfOk, OnOk};
 ghost use Rattle.sal_node.specs.Links.{has_few_nodes};
-ghost use Rattle.sal_move.specs.declared.places.Known.{Known};
+ghost use Rattle.sal_directory.specs.Nodes as nodes;
+ghost use Rattle.sal_source.specs.Step.{bound_actor};
+ghost use Rattle.sal_resident.specs.Unpacking.{unpacked_actor};
+ghost use Rattle.sal_desk.specs.code.Desks.{on_desk};
 ghost use Rattle.sal_routing.specs.State as spec;
+ghost use Rattle.sal_routing.specs.Routing as routing;
+ghost use Rattle.sal_routing.specs.Arrivals.{tell_service};
 ghost use Rattle.sal_routing.specs.Turns as turns;
+ghost use Rattle.sal_theatre.specs.code.Asked.{question};
 
 use crate::arrivals::{arrive, learn};
-use crate::fits::{fits_arrival, fits_move};
+use crate::creating::locator_of;
+use crate::fits::{fits_arrival, fits_move, is_served};
+use crate::nodes::{service_for, theatre_at};
 use crate::routing::route;
+use sal_book::Book;
 use sal_desk::Desk;
-use sal_directory::{service_of, theatre_of};
-use sal_mail::{Actor, Envelope, Fault, FaultKind};
+use sal_mail::{Actor, Creation, Envelope, Fault, FaultKind};
 use sal_move::Known;
 use sal_node::FIRST_SERVICE;
 use sal_resident::{Resident, unpack};
 use sal_routing::{Asking, Item, Pending, Question};
 use sal_source::Runner;
 use sal_value::{CloneIn, DecodeFault, List, Name, NoMemory, Ual, Uan};
-use sal_book::Book;
 use std::alloc::Global;
+
+// ---- answers to questions
 
 /// A moment so long after this one.
 fn moment_after(clock: u64, ms: u64) -> u64
     ensures { result ≡ spec.moment (clock + ms) }
 {
     clock.saturating_add(ms)
-}
-
-fn raised(hops: u32) -> u32
-    ensures { result ≡ spec.raised hops }
-{
-    hops.saturating_add(1)
 }
 
 /// How far a question has come after an answer that leaves it open, or doesn't.
@@ -51,8 +53,14 @@ fn asking_after(asking: Asking, is_left_open: bool, clock: u64) -> Asking
     }
 }
 
-/// What a naming service said of a name: where it is, among the theatres of the plan.
-fn is_left_open(alloc: Global, desk: &Desk<'_>, name: &Uan, found: Option<Known>) -> Result<bool, NoMemory>
+/// Whether the answer leaves the question open.
+fn is_left_open(
+    alloc: Global,
+    desk: &Desk<'_>,
+    name: &Uan,
+    found: Option<Known>,
+) -> Result<bool, NoMemory>
+    ensures { IfOk result (λ open. open ≡ turns.is_left_open name.now found desk.now.desk.theatre) }
 {
     match found {
         None => Ok(true),
@@ -70,7 +78,8 @@ fn learn_elsewhere<R: Runner>(
     name: &Uan,
     found: Option<Known>,
 ) -> Result<(), NoMemory>
-    ensures { OnOk result (desk.new ≡ turns.learn_elsewhere (R.meaning runner.now) name.now found desk.old) }
+    requires { has_few_nodes desk.old.desk.theatre.plan ≡ true }
+    ensures { OnOk result (desk.new ≡ on_desk (turns.learn_elsewhere (R.meaning runner.now) name.now found) desk.old) }
 {
     match found {
         None => Ok(()),
@@ -90,51 +99,66 @@ fn answer_question<R: Runner>(
     alloc: Global,
     runner: &R,
     desk: &mut Desk<'_>,
-    name: Uan,
+    name: &Uan,
     asking: Asking,
     found: Option<Known>,
 ) -> Result<(), NoMemory>
-    ensures { OnOk result (desk.new ≡ turns.answer_question (R.meaning runner.now) name asking found desk.old) }
+    requires { has_few_nodes desk.old.desk.theatre.plan ≡ true }
+    ensures { OnOk result (desk.new ≡ on_desk (turns.answer_question (R.meaning runner.now) name.now asking found) desk.old) }
 {
-    let is_left_open = is_left_open(alloc, desk, &name, found)?;
+    let is_left_open = is_left_open(alloc, desk, name, found)?;
     let asking = asking_after(asking, is_left_open, desk.clock());
     let question = Question {
         name: name.clone_in(alloc)?,
         asking,
     };
     desk.put_question(alloc, question)?;
-    learn_elsewhere(alloc, runner, desk, &name, found)
+    learn_elsewhere(alloc, runner, desk, name, found)
 }
 
-/// The answer of a naming service.
-#[tactic(auto, unfolding(sal_routing::specs::Turns::take_get_reply))]
-fn take_get_reply<R: Runner>(
+/// The answer to the question for the name, which came so far.
+fn answer_found<R: Runner>(
     alloc: Global,
     runner: &R,
     desk: &mut Desk<'_>,
-    name: Uan,
+    name: &Uan,
+    asking: Asking,
     found: Option<(Ual, u64)>,
 ) -> Result<(), NoMemory>
-    requires { has_few_nodes desk.old.theatre.plan ≡ true }
-    ensures { OnOk result (desk.new ≡ turns.take_get_reply (R.meaning runner.now) name found desk.old) }
+    requires { has_few_nodes desk.old.desk.theatre.plan ≡ true }
+    ensures { OnOk result (desk.new ≡ on_desk (turns.answer_by (R.meaning runner.now) name.now (Some (question name.now asking)) found) desk.old) }
 {
-    let Some(asking) = desk.asking(&name) else {
-        return Ok(());
-    };
     match found {
         None => answer_question(alloc, runner, desk, name, asking, None),
-        Some((place, moves)) => match theatre_of(desk.plan(), &place) {
+        Some((place, moves)) => match theatre_at(desk.plan(), &place) {
             None => Ok(()),
             Some(theatre) => {
-                let at = Known {
-                    theatre: theatre as u8,
-                    moves,
-                };
+                let at = Known { theatre, moves };
                 answer_question(alloc, runner, desk, name, asking, Some(at))
             }
         },
     }
 }
+
+/// The answer of a naming service.
+#[tactic(auto, using(crate::proofs::Received::not_asked, crate::proofs::Received::asked), unfolding(sal_routing::specs::Turns::take_get_reply))]
+fn take_get_reply<R: Runner>(
+    alloc: Global,
+    runner: &R,
+    desk: &mut Desk<'_>,
+    name: &Uan,
+    found: Option<(Ual, u64)>,
+) -> Result<(), NoMemory>
+    requires { has_few_nodes desk.old.desk.theatre.plan ≡ true }
+    ensures { OnOk result (desk.new ≡ on_desk (turns.take_get_reply (R.meaning runner.now) name.now found) desk.old) }
+{
+    match desk.asking(name) {
+        None => Ok(()),
+        Some(asking) => answer_found(alloc, runner, desk, name, asking, found),
+    }
+}
+
+// ---- new actors
 
 fn new_resident(alloc: Global, actor: Actor) -> Resident
     ensures { result ≡ spec.newcomer actor }
@@ -161,14 +185,15 @@ fn bound_actor(creation: Creation) -> Actor
 }
 
 /// The new actor stands here, or goes to its theatre, whose place becomes known.
-#[tactic(auto, unfolding(sal_routing::specs::Turns::place_new))]
+#[tactic(auto, using(sal_tidy::proofs::Keeping::newcomers, sal_routing::proofs::Kept::plans_kept), unfolding(sal_routing::specs::Turns::place_new))]
 fn place_new<R: Runner>(
     alloc: Global,
     runner: &R,
     desk: &mut Desk<'_>,
     pending: Pending,
 ) -> Result<(), NoMemory>
-    ensures { OnOk result (desk.new ≡ turns.place_new (R.meaning runner.now) pending desk.old) }
+    requires { has_few_nodes desk.old.desk.theatre.plan ≡ true }
+    ensures { OnOk result (desk.new ≡ on_desk (turns.place_new (R.meaning runner.now) pending) desk.old) }
 {
     let name = pending.creation.name.clone_in(alloc)?;
     let actor = bound_actor(pending.creation);
@@ -181,7 +206,7 @@ fn place_new<R: Runner>(
 
 #[tactic(auto, unfolding(sal_routing::specs::Turns::name_taken))]
 fn name_taken(desk: &mut Desk<'_>, pending: Pending) -> Result<(), NoMemory>
-    ensures { OnOk result (desk.new ≡ turns.name_taken pending desk.old) }
+    ensures { OnOk result (desk.new ≡ on_desk (turns.name_taken pending) desk.old) }
 {
     desk.tell_fault(Fault {
         maker: pending.maker,
@@ -190,8 +215,26 @@ fn name_taken(desk: &mut Desk<'_>, pending: Pending) -> Result<(), NoMemory>
     })
 }
 
+/// The name of this creation is bound, or was taken.
+fn decide<R: Runner>(
+    alloc: Global,
+    runner: &R,
+    desk: &mut Desk<'_>,
+    pending: Pending,
+    bound: bool,
+) -> Result<(), NoMemory>
+    requires { has_few_nodes desk.old.desk.theatre.plan ≡ true }
+    ensures { OnOk result (desk.new ≡ on_desk (turns.decide (R.meaning runner.now) pending bound) desk.old) }
+{
+    if bound {
+        place_new(alloc, runner, desk, pending)
+    } else {
+        name_taken(desk, pending)
+    }
+}
+
 /// The answer to a creation that was put and waits here.
-#[tactic(auto, unfolding(sal_routing::specs::Turns::take_put_reply))]
+#[tactic(auto, using(sal_routing::proofs::Kept::plans_kept), unfolding(sal_routing::specs::Turns::take_put_reply))]
 fn take_put_reply<R: Runner>(
     alloc: Global,
     runner: &R,
@@ -200,31 +243,31 @@ fn take_put_reply<R: Runner>(
     serial: u64,
     bound: bool,
 ) -> Result<(), NoMemory>
-    ensures { OnOk result (desk.new ≡ turns.take_put_reply (R.meaning runner.now) maker serial bound desk.old) }
+    requires { has_few_nodes desk.old.desk.theatre.plan ≡ true }
+    ensures { OnOk result (desk.new ≡ on_desk (turns.take_put_reply (R.meaning runner.now) maker serial bound) desk.old) }
 {
-    let Some(pending) = desk.pending(alloc, &maker, serial)? else {
-        return Ok(());
-    };
-    if service_of(desk.plan(), &pending.creation.name).is_none() {
-        return Ok(());
-    }
-    desk.drop_pending(maker, serial)?;
-    if bound {
-        place_new(alloc, runner, desk, pending)
-    } else {
-        name_taken(desk, pending)
+    match desk.pending(alloc, &maker, serial)? {
+        None => Ok(()),
+        Some(pending) => {
+            if !is_served(desk.plan(), &pending.creation.name) {
+                return Ok(());
+            }
+            desk.drop_pending(maker, serial)?;
+            decide(alloc, runner, desk, pending, bound)
+        }
     }
 }
 
 /// An actor that was made for this theatre.
-#[tactic(auto, unfolding(sal_routing::specs::Turns::take_create))]
+#[tactic(auto, using(sal_tidy::proofs::Keeping::newcomers), unfolding(sal_routing::specs::Turns::take_create))]
 fn take_create<R: Runner>(
     alloc: Global,
     runner: &R,
     desk: &mut Desk<'_>,
     actor: Actor,
 ) -> Result<(), NoMemory>
-    ensures { OnOk result (desk.new ≡ turns.take_create (R.meaning runner.now) (newcomer actor) desk.old) }
+    requires { has_few_nodes desk.old.desk.theatre.plan ≡ true }
+    ensures { OnOk result (desk.new ≡ on_desk (turns.take_create (R.meaning runner.now) (spec.newcomer actor)) desk.old) }
 {
     let actor = new_resident(alloc, actor);
     if !fits_arrival(runner, desk, &actor) {
@@ -233,35 +276,53 @@ fn take_create<R: Runner>(
     arrive(alloc, runner, desk, actor)
 }
 
-/// The naming service of an actor that moved here is told.
-fn tell_move(alloc: Global, desk: &mut Desk<'_>, name: &Name, moves: u64) -> Result<(), NoMemory>
-    ensures { OnOk result (desk.new ≡ turns.tell_move name.now moves desk.old) }
+// ---- actors that move
+
+/// The naming service of the name is told that it moved here.
+fn tell_service(
+    alloc: Global,
+    desk: &mut Desk<'_>,
+    name: &Uan,
+    moves: u64,
+) -> Result<(), NoMemory>
+    requires { has_few_nodes desk.old.desk.theatre.plan ≡ true }
+    ensures { OnOk result (desk.new ≡ on_desk (λ d. tell_service (nodes.service_of d.theatre.plan name.now) (slice_get d.theatre.plan.theatres d.theatre.me) name.now moves d) desk.old) }
 {
-    let Name::Uan(name) = name else {
+    let Some(service) = service_for(desk.plan(), name) else {
         return Ok(());
     };
-    let Some(service) = service_of(desk.plan(), name) else {
-        return Ok(());
-    };
-    let Some(place) = desk.plan().theatres.get(desk.me() as usize) else {
+    let Some(place) = locator_of(alloc, desk.plan(), desk.me())? else {
         return Ok(());
     };
     let update = Envelope::Update {
         name: name.clone_in(alloc)?,
-        place: place.clone_in(alloc)?,
+        place,
         moves,
     };
-    desk.send(alloc, FIRST_SERVICE + service as u8, &update)
+    desk.send(alloc, FIRST_SERVICE + service, &update)
 }
 
-#[tactic(auto, unfolding(sal_routing::specs::Turns::take_resident))]
+/// The naming service of an actor that moved here is told.
+fn tell_move(alloc: Global, desk: &mut Desk<'_>, name: &Name, moves: u64) -> Result<(), NoMemory>
+    requires { has_few_nodes desk.old.desk.theatre.plan ≡ true }
+    ensures { OnOk result (desk.new ≡ on_desk (turns.tell_move name.now moves) desk.old) }
+{
+    match name {
+        Name::Uan(name) => tell_service(alloc, desk, name, moves),
+        Name::Anon(_, _) | Name::Outside(_) => Ok(()),
+    }
+}
+
+/// An actor that moved here with all that it took along.
+#[tactic(auto, using(crate::proofs::Received::fits_tidy, sal_routing::proofs::Kept::plans_kept), unfolding(sal_routing::specs::Turns::take_resident))]
 fn take_resident<R: Runner>(
     alloc: Global,
     runner: &R,
     desk: &mut Desk<'_>,
     actor: Resident,
 ) -> Result<(), NoMemory>
-    ensures { OnOk result (desk.new ≡ turns.take_resident (R.meaning runner.now) actor desk.old) }
+    requires { has_few_nodes desk.old.desk.theatre.plan ≡ true }
+    ensures { OnOk result (desk.new ≡ on_desk (turns.take_resident (R.meaning runner.now) actor) desk.old) }
 {
     if !fits_move(alloc, runner, desk, &actor)? {
         return Ok(());
@@ -279,13 +340,36 @@ fn take_move<R: Runner>(
     desk: &mut Desk<'_>,
     packed: &[u8],
 ) -> Result<(), NoMemory>
-    ensures { OnOk result (desk.new ≡ turns.take_move (R.meaning runner.now) (unpacked_actor packed.now) desk.old) }
+    requires { has_few_nodes desk.old.desk.theatre.plan ≡ true }
+    ensures { OnOk result (desk.new ≡ on_desk (turns.take_move (R.meaning runner.now) (unpacked_actor packed.now)) desk.old) }
 {
     match unpack(alloc, packed) {
         Ok(actor) => take_resident(alloc, runner, desk, actor),
         Err(DecodeFault::Memory) => Err(NoMemory),
         Err(DecodeFault::Cut | DecodeFault::Bad(_)) => Ok(()),
     }
+}
+
+// ---- any envelope
+
+fn raised(hops: u32) -> u32
+    ensures { result ≡ spec.raised hops }
+{
+    hops.saturating_add(1)
+}
+
+/// An item that came joins the list, which is routed.
+fn route_too<R: Runner>(
+    alloc: Global,
+    runner: &R,
+    desk: &mut Desk<'_>,
+    item: Item,
+) -> Result<(), NoMemory>
+    requires { has_few_nodes desk.old.desk.theatre.plan ≡ true }
+    ensures { OnOk result (desk.new ≡ on_desk (λ d. routing.route (R.meaning runner.now) (spec.with_work (item ∷ []) d)) desk.old) }
+{
+    desk.push_work(item)?;
+    route(alloc, runner, desk)
 }
 
 /// What an envelope does that came to a theatre. One that doesn't fit is dropped.
@@ -296,17 +380,15 @@ pub fn receive<R: Runner>(
     desk: &mut Desk<'_>,
     envelope: Envelope,
 ) -> Result<(), NoMemory>
-    requires { has_few_nodes desk.old.theatre.plan ≡ true }
-    ensures { OnOk result (desk.new ≡ turns.receive (R.meaning runner.now) envelope desk.old) }
+    requires { has_few_nodes desk.old.desk.theatre.plan ≡ true }
+    ensures { OnOk result (desk.new ≡ on_desk (turns.receive (R.meaning runner.now) envelope) desk.old) }
 {
     match envelope {
         Envelope::Call { hops, message } => {
-            desk.push_work(Item::Call(raised(hops), message))?;
-            route(alloc, runner, desk)
+            route_too(alloc, runner, desk, Item::Call(raised(hops), message))
         }
         Envelope::Reply { hops, reply, value } => {
-            desk.push_work(Item::Answer(raised(hops), reply, value))?;
-            route(alloc, runner, desk)
+            route_too(alloc, runner, desk, Item::Answer(raised(hops), reply, value))
         }
         Envelope::Create(actor) => take_create(alloc, runner, desk, actor),
         Envelope::Move(packed) => take_move(alloc, runner, desk, packed.as_slice()),
@@ -315,7 +397,7 @@ pub fn receive<R: Runner>(
             serial,
             bound,
         } => take_put_reply(alloc, runner, desk, maker, serial, bound),
-        Envelope::GetReply { name, found } => take_get_reply(alloc, runner, desk, name, found),
+        Envelope::GetReply { name, found } => take_get_reply(alloc, runner, desk, &name, found),
         Envelope::Put { .. } | Envelope::Get(_) | Envelope::Update { .. } => Ok(()),
     }
 }

@@ -2,15 +2,15 @@
 
 ghost use Rattle.std.specs.Prelude.{◌≡◌, IfOk};
 ghost use Rattle.std.specs.List.{list_all};
+ghost use Rattle.sal_mail.specs.Message.{is_for};
 ghost use Rattle.sal_routing.specs.Fits as spec;
 
 use sal_desk::Desk;
 use sal_directory::service_of;
-use sal_mail::{Join, Message, OUTPUT, PRINTLN, Piece};
-use sal_mail::Plan;
+use sal_mail::{Join, Message, OUTPUT, PRINTLN, Piece, Plan, Target};
 use sal_resident::Resident;
 use sal_source::Runner;
-use sal_value::{Name, NoMemory, Value};
+use sal_value::{Name, NoMemory, Uan, Value};
 use std::alloc::Global;
 
 /// Whether the call's handler is there, and its values are legal and belong to the parameters.
@@ -50,11 +50,17 @@ pub fn fits_print(alloc: Global, message: &Message) -> Result<bool, NoMemory>
     Ok(message.behavior == OUTPUT && message.handler <= PRINTLN && can_print(args.as_slice()))
 }
 
+pub fn is_served(plan: &Plan, name: &Uan) -> bool
+    ensures { result ≡ spec.is_served plan.now name.now }
+{
+    service_of(plan, name).is_some()
+}
+
 fn is_served_name(plan: &Plan, name: &Name) -> bool
     ensures { result ≡ spec.is_served_name plan.now name.now }
 {
     match name {
-        Name::Uan(name) => service_of(plan, name).is_some(),
+        Name::Uan(name) => is_served(plan, name),
         Name::Anon(_, _) | Name::Outside(_) => false,
     }
 }
@@ -62,7 +68,7 @@ fn is_served_name(plan: &Plan, name: &Name) -> bool
 /// Whether the actor's state belongs to the program, and its name may come here.
 #[tactic(auto, unfolding(sal_routing::specs::Fits::fits_arrival))]
 pub fn fits_arrival<R: Runner>(runner: &R, desk: &Desk<'_>, actor: &Resident) -> bool
-    ensures { result ≡ spec.fits_arrival (R.meaning runner.now) desk.now.theatre actor.now }
+    ensures { result ≡ spec.fits_arrival (R.meaning runner.now) desk.now.desk.theatre actor.now }
 {
     runner.fits_state(actor.behavior, &actor.fields)
         && is_served_name(desk.plan(), &actor.name)
@@ -81,12 +87,7 @@ fn is_legal_piece(piece: &Piece) -> bool
 fn are_legal_pieces(pieces: &[Piece]) -> bool
     ensures { result ≡ list_all spec.is_legal_piece pieces.now }
 {
-    for piece in pieces {
-        if !is_legal_piece(piece) {
-            return false;
-        }
-    }
-    true
+    pieces.iter().all(is_legal_piece)
 }
 
 #[tactic(auto, unfolding(sal_routing::specs::Fits::fits_waiting))]
@@ -102,23 +103,22 @@ fn fits_waiting(actor: &Resident, message: &Message) -> bool
 fn all_fit_waiting(actor: &Resident, messages: &[Message]) -> bool
     ensures { result ≡ list_all (spec.fits_waiting actor.now) messages.now }
 {
-    for message in messages {
-        if !fits_waiting(actor, message) {
-            return false;
-        }
-    }
-    true
+    messages.iter().all(|message| fits_waiting(actor, message))
 }
 
 fn all_fit_joins(actor: &Resident, joins: &[Join]) -> bool
     ensures { result ≡ list_all (spec.fits_join actor.now) joins.now }
 {
-    for join in joins {
-        if join.number >= actor.serial {
-            return false;
-        }
+    joins.iter().all(|join| join.number < actor.serial)
+}
+
+fn is_for(message: &Message, name: &Name) -> bool
+    ensures { result ≡ is_for name.now message.now }
+{
+    match &message.target {
+        Target::Actor(actor) => actor == name,
+        Target::Output => false,
     }
-    true
 }
 
 #[tactic(auto, unfolding(sal_routing::specs::Fits::fits_mailbox))]
@@ -159,7 +159,7 @@ pub fn fits_move<R: Runner>(
     desk: &Desk<'_>,
     actor: &Resident,
 ) -> Result<bool, NoMemory>
-    ensures { IfOk result (λ fits. fits ≡ spec.fits_move (R.meaning runner.now) desk.now.theatre actor.now) }
+    ensures { IfOk result (λ fits. fits ≡ spec.fits_move (R.meaning runner.now) desk.now.desk.theatre actor.now) }
 {
     if !fits_arrival(runner, desk, actor)
         || !all_fit_waiting(actor, actor.book.waiting_messages())

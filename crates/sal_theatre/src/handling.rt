@@ -1,27 +1,34 @@
 //! A step: a ready message is printed or handled.
 
-ghost use Rattle.std.specs.Prelude.{◌≡◌, [], ◌∷◌, ◌++◌, ◌≤◌, map, true, if◌then◌else◌, IfOk, OnOk};
-ghost use Rattle.sal_handler.specs.declared.turn.Outcome.TheVariants.{Done};
+ghost use Rattle.std.specs.Prelude.{◌≡◌, [], ◌∷◌, ◌++◌, ◌≤◌, map, true, if◌then◌else◌, Some, None, IfOk, OnOk};
+ghost use Rattle.std.specs.Option.{option_to_list};
+ghost use Rattle.sal_value.specs.declared.value.Value.TheVariants.{Null};
+ghost use Rattle.sal_handler.specs.Calls.{call};
 ghost use Rattle.sal_node.specs.Links.{has_few_nodes};
 ghost use Rattle.sal_source.specs.declared.state.Step.TheVariants.{Handle};
-ghost use Rattle.sal_source.specs.Step.{is_migrate_message, understands, answer_replies};
+ghost use Rattle.sal_source.specs.Runners.{behavior_or_migrate};
+ghost use Rattle.sal_source.specs.Step.{understands, answer_replies};
+ghost use Rattle.sal_desk.specs.code.Desks.{on_desk, on_theatre};
 ghost use Rattle.sal_desk.specs.code.Effects.{MayTake};
-ghost use Rattle.sal_routing.specs.Routing.{answer_made};
+ghost use Rattle.sal_routing.specs.Routing.{released_items, answer_made, put_resident};
 ghost use Rattle.sal_routing.specs.State as spec;
 ghost use Rattle.sal_routing.specs.Handling as handling;
 ghost use Rattle.sal_theatre.specs.code.Programs.{IsRunner};
 
-use crate::arrivals::move_to;
 use crate::creating::{create_all, put_newcomers};
+use crate::migrating::{is_migrate, migrate_after};
+use crate::printing::message_text;
 use crate::routing::{add_released, route};
+use sal_book::Released;
 use sal_desk::{Desk, Standing};
-use sal_directory::theatre_of;
 use sal_handler::{Outcome, Turn};
 use sal_mail::{Actor, Answer, Effects, Fault, FaultKind, Join, MIGRATE, Message, OUTPUT, Reply};
 use sal_routing::Item;
 use sal_source::{Runner, Step};
-use sal_value::{CloneIn, List, Name, NoMemory, Ual, Value};
+use sal_value::{CloneIn, List, Name, NoMemory, Value};
 use std::alloc::Global;
+
+// ---- what is told
 
 /// The message was handled, and nothing but the fault is left of it.
 #[tactic(auto, unfolding(sal_routing::specs::Handling::fail))]
@@ -31,7 +38,7 @@ fn fail(
     message: &Message,
     kind: FaultKind,
 ) -> Result<(), NoMemory>
-    ensures { OnOk result (desk.new ≡ handling.fail kind message.now desk.old) }
+    ensures { OnOk result (desk.new ≡ on_desk (handling.fail kind message.now) desk.old) }
 {
     desk.log(Step::Handle {
         maker: message.maker.clone_in(alloc)?,
@@ -55,26 +62,39 @@ fn names_of(alloc: Global, actors: &[Actor]) -> Result<List<Name>, NoMemory>
     Ok(names)
 }
 
+fn tell_if_open(
+    alloc: Global,
+    desk: &mut Desk<'_>,
+    owner: &Name,
+    join: &Join,
+) -> Result<(), NoMemory>
+    ensures { OnOk result (desk.new ≡ on_desk (λ d. record d { told = record d.told { opened = d.told.opened ++ handling.opened_by owner.now (join.now ∷ []) } }) desk.old) }
+{
+    if join.is_full() {
+        return Ok(());
+    }
+    desk.tell_opened(owner.clone_in(alloc)?, join.clone_in(alloc)?)
+}
+
 /// Each open join is told with its owner.
+#[tactic(auto, using(crate::proofs::Handled::one_opened))]
 fn tell_opened(
     alloc: Global,
     desk: &mut Desk<'_>,
     owner: &Name,
     joins: &[Join],
 ) -> Result<(), NoMemory>
-    ensures { OnOk result (desk.new ≡ record desk.old { told = record desk.old.told { opened = desk.old.told.opened ++ handling.opened_by owner.now joins.now } }) }
+    ensures { OnOk result (desk.new ≡ on_desk (λ d. record d { told = record d.told { opened = d.told.opened ++ handling.opened_by owner.now joins.now } }) desk.old) }
 {
     for join in joins {
-        if !join.is_full() {
-            desk.tell_opened(owner.clone_in(alloc)?, join.clone_in(alloc)?)?;
-        }
+        tell_if_open(alloc, desk, owner, join)?;
     }
     Ok(())
 }
 
 /// Each new actor is told with this theatre.
 fn tell_made(alloc: Global, desk: &mut Desk<'_>, actors: &[Actor]) -> Result<(), NoMemory>
-    ensures { OnOk result (desk.new ≡ record desk.old { told = record desk.old.told { made = desk.old.told.made ++ handling.made_here desk.old.theatre.me actors.now } }) }
+    ensures { OnOk result (desk.new ≡ on_desk (λ d. record d { told = record d.told { made = d.told.made ++ handling.made_here d.theatre.me actors.now } }) desk.old) }
 {
     for actor in actors {
         desk.tell_made(actor.name.clone_in(alloc)?)?;
@@ -82,51 +102,19 @@ fn tell_made(alloc: Global, desk: &mut Desk<'_>, actors: &[Actor]) -> Result<(),
     Ok(())
 }
 
-/// The reply of the handler that ended, if it wasn't passed on.
-fn push_answer(
-    alloc: Global,
-    desk: &mut Desk<'_>,
-    answer: Answer,
-    reply: &Reply,
-) -> Result<(), NoMemory>
-    ensures { OnOk result (desk.new ≡ spec.with_work (map answer_made (answer_replies answer reply.now)) desk.old) }
-{
-    match answer {
-        Answer::Passed => Ok(()),
-        Answer::Value(value) => desk.push_work(Item::Answer(0, reply.clone_in(alloc)?, value)),
-    }
-}
-
-/// What is released and answered by a handler that ended joins the work, and its replies are told.
-fn tell_given(
-    alloc: Global,
-    desk: &mut Desk<'_>,
-    replies: &[(Reply, Value)],
-    answer: &Answer,
-    reply: &Reply,
-) -> Result<(), NoMemory>
-    ensures { OnOk result (desk.new ≡ spec.tell_given (replies.now ++ answer_replies answer.now reply.now) desk.old) }
-{
-    let mut given = List::new(alloc);
-    for (to, value) in replies {
-        given.push((to.clone_in(alloc)?, value.clone_in(alloc)?))?;
-    }
-    if let Answer::Value(value) = answer {
-        given.push((reply.clone_in(alloc)?, value.clone_in(alloc)?))?;
-    }
-    desk.tell_given(given)
-}
-
-/// The step of a message whose handler ended.
-fn log_handle(
+/// The step of a message whose handler ended, with what it made.
+fn tell_handled(
     alloc: Global,
     desk: &mut Desk<'_>,
     message: &Message,
-    actors: &[Actor],
+    name: &Name,
+    effects: &Effects,
 ) -> Result<(), NoMemory>
-    ensures { OnOk result (desk.new ≡ spec.log (Handle message.now.maker message.now.serial (handling.names_of actors.now)) desk.old) }
+    ensures { OnOk result (desk.new ≡ on_desk (λ d. spec.log (Handle message.now.maker message.now.serial (handling.names_of effects.now.actors)) (record d { told = record d.told { made = d.told.made ++ handling.made_here d.theatre.me effects.now.actors; opened = d.told.opened ++ handling.opened_by name.now effects.now.joins } })) desk.old) }
 {
-    let fresh = names_of(alloc, actors)?;
+    tell_made(alloc, desk, effects.actors.as_slice())?;
+    tell_opened(alloc, desk, name, effects.joins.as_slice())?;
+    let fresh = names_of(alloc, effects.actors.as_slice())?;
     desk.log(Step::Handle {
         maker: message.maker.clone_in(alloc)?,
         serial: message.serial,
@@ -134,8 +122,75 @@ fn log_handle(
     })
 }
 
+/// The reply of the handler that ended, if it wasn't passed on.
+fn answer_of(
+    alloc: Global,
+    answer: &Answer,
+    reply: &Reply,
+) -> Result<Option<(Reply, Value)>, NoMemory>
+    ensures { IfOk result (λ given. option_to_list given ≡ answer_replies answer.now reply.now) }
+{
+    match answer {
+        Answer::Passed => Ok(None),
+        Answer::Value(value) => Ok(Some((reply.clone_in(alloc)?, value.clone_in(alloc)?))),
+    }
+}
+
+/// The replies that the step gives.
+fn tell_replies(
+    alloc: Global,
+    desk: &mut Desk<'_>,
+    replies: &List<(Reply, Value)>,
+    answer: &Answer,
+    reply: &Reply,
+) -> Result<(), NoMemory>
+    ensures { OnOk result (desk.new ≡ on_desk (spec.tell_given (replies.now ++ answer_replies answer.now reply.now)) desk.old) }
+{
+    let mut given = replies.clone_in(alloc)?;
+    if let Some(answer) = answer_of(alloc, answer, reply)? {
+        given.push(answer)?;
+    }
+    desk.tell_given(given)
+}
+
+// ---- a handler's effects
+
+/// The actor and the new ones stand here.
+#[tactic(auto, using(sal_routing::proofs::Kept::plans_kept))]
+fn stand_all(
+    alloc: Global,
+    desk: &mut Desk<'_>,
+    actor: Standing,
+    newcomers: List<Actor>,
+    fresh: u64,
+) -> Result<(), NoMemory>
+    ensures { OnOk result (desk.new ≡ on_desk (on_theatre (λ t. record (handling.put_newcomers newcomers (put_resident actor t)) { next_anon = fresh })) desk.old) }
+{
+    desk.put_resident(alloc, actor)?;
+    put_newcomers(alloc, desk, newcomers)?;
+    desk.set_next_anon(fresh);
+    Ok(())
+}
+
+/// What was released, and the reply, join the end of the list.
+fn add_work(
+    alloc: Global,
+    desk: &mut Desk<'_>,
+    released: Released,
+    answer: &Answer,
+    reply: &Reply,
+) -> Result<(), NoMemory>
+    ensures { OnOk result (desk.new ≡ on_desk (spec.with_work (released_items released ++ map answer_made (answer_replies answer.now reply.now))) desk.old) }
+{
+    add_released(desk, released)?;
+    match answer_of(alloc, answer, reply)? {
+        None => Ok(()),
+        Some((reply, value)) => desk.push_work(Item::Answer(0, reply, value)),
+    }
+}
+
 /// What the handler leaves: the actor and the new ones stand here, names are put, and the list is routed.
-#[tactic(auto, unfolding(sal_routing::specs::Handling::take_effect))]
+#[tactic(auto, using(sal_routing::proofs::Kept::plans_kept), unfolding(sal_routing::specs::Handling::take_effect, sal_routing::specs::Handling::installed, sal_routing::specs::Handling::handler_work))]
 fn take_effect<R: Runner>(
     alloc: Global,
     runner: &R,
@@ -145,62 +200,27 @@ fn take_effect<R: Runner>(
     effects: Effects,
 ) -> Result<(), NoMemory>
     requires takes { MayTake effects.fields effects.serial effects.messages effects.joins actor }
-    requires plan { has_few_nodes desk.old.theatre.plan ≡ true }
-    ensures { OnOk result (desk.new ≡ handling.take_effect (R.meaning runner.now) effects message.now actor desk.old) }
+    requires few { has_few_nodes desk.old.desk.theatre.plan ≡ true }
+    ensures { OnOk result (desk.new ≡ on_desk (handling.take_effect (R.meaning runner.now) effects message.now actor) desk.old) }
 {
     let name = actor.resident().name.clone_in(alloc)?;
     let mut actor = actor;
-    tell_made(alloc, desk, effects.actors.as_slice())?;
-    tell_opened(alloc, desk, &name, effects.joins.as_slice())?;
-    log_handle(alloc, desk, message, effects.actors.as_slice())?;
-    let released = actor.take_effects(alloc, effects.fields, effects.serial, effects.messages, effects.joins)?;
-    tell_given(alloc, desk, released.replies.as_slice(), &effects.answer, &message.reply)?;
-    desk.put_resident(alloc, actor)?;
-    put_newcomers(alloc, desk, effects.actors)?;
-    desk.set_next_anon(effects.fresh);
+    tell_handled(alloc, desk, message, &name, &effects)?;
+    let released = actor.take_effects(
+        alloc,
+        effects.fields,
+        effects.serial,
+        effects.messages,
+        effects.joins,
+    )?;
+    tell_replies(alloc, desk, &released.replies, &effects.answer, &message.reply)?;
+    stand_all(alloc, desk, actor, effects.actors, effects.fresh)?;
     create_all(alloc, desk, &name, effects.creations)?;
-    add_released(desk, released)?;
-    push_answer(alloc, desk, effects.answer, &message.reply)?;
+    add_work(alloc, desk, released, &effects.answer, &message.reply)?;
     route(alloc, runner, desk)
 }
 
-/// The theatre that a message to migrate names, where it is one of the plan.
-#[tactic(auto, unfolding(sal_routing::specs::Handling::named_theatre))]
-fn named_theatre(alloc: Global, desk: &Desk<'_>, message: &Message) -> Result<Option<u8>, NoMemory>
-    requires { has_few_nodes desk.now.theatre.plan ≡ true }
-    ensures { IfOk result (λ to. to ≡ handling.named_theatre desk.now.theatre.plan message.now) }
-{
-    Err(NoMemory)
-}
-
-fn is_migrate(message: &Message) -> bool
-    ensures { result ≡ is_migrate_message message.now }
-{
-    message.behavior == OUTPUT && message.handler == MIGRATE
-}
-
-/// After all that the reply of `migrate` released, the actor moves.
-#[tactic(auto, unfolding(sal_routing::specs::Handling::migrate_after))]
-fn migrate_after(
-    alloc: Global,
-    desk: &mut Desk<'_>,
-    message: &Message,
-    name: &Name,
-) -> Result<(), NoMemory>
-    requires { has_few_nodes desk.old.theatre.plan ≡ true }
-    ensures { OnOk result (desk.new ≡ (if is_migrate_message message.now then handling.migrate_to (handling.named_theatre desk.old.theatre.plan message.now) name.now desk.old else desk.old)) }
-{
-    if !is_migrate(message) {
-        return Ok(());
-    }
-    match named_theatre(alloc, desk, message)? {
-        None => Ok(()),
-        Some(to) => {
-            move_to(alloc, desk, name, to)?;
-            Ok(())
-        }
-    }
-}
+// ---- handling
 
 /// Whether the actor understands the message.
 fn understands(actor: &Standing, message: &Message) -> bool
@@ -229,6 +249,22 @@ fn may_be_called<R: Runner>(runner: &R, turn: &Turn<'_>) -> bool
         )
 }
 
+/// What the call does, where it fits.
+#[tactic(auto, using(crate::proofs::Handled::state_fits, crate::proofs::Handled::call_fits))]
+fn outcome_if_fits<R: Runner>(
+    alloc: Global,
+    runner: &R,
+    turn: &Turn<'_>,
+) -> Result<Option<Outcome>, NoMemory>
+    requires { turn.now.fresh ≤ 18446744073709550591 }
+    ensures { IfOk result (λ o. o ≡ (if handling.may_be_called (R.meaning runner.now) (call turn.now) then Some ((R.meaning runner.now).outcome (call turn.now)) else None)) }
+{
+    if !may_be_called(runner, turn) {
+        return Ok(None);
+    }
+    Ok(Some(runner.handle(alloc, turn)?))
+}
+
 /// What the handler of the message does, where its call fits.
 fn outcome_of<R: Runner>(
     alloc: Global,
@@ -237,8 +273,8 @@ fn outcome_of<R: Runner>(
     actor: &Standing,
     message: &Message,
 ) -> Result<Option<Outcome>, NoMemory>
-    requires fresh { desk.now.theatre.next_anon ≤ 18446744073709550591 }
-    ensures { IfOk result (λ o. o ≡ (if handling.may_be_called (R.meaning runner.now) (handling.call_at message.now actor.now desk.now.theatre) then Some ((R.meaning runner.now).outcome (handling.call_at message.now actor.now desk.now.theatre)) else None)) }
+    requires { desk.now.desk.theatre.next_anon ≤ 18446744073709550591 }
+    ensures { IfOk result (λ o. o ≡ (if handling.may_be_called (R.meaning runner.now) (handling.call_at message.now actor.now desk.now.desk.theatre) then Some ((R.meaning runner.now).outcome (handling.call_at message.now actor.now desk.now.desk.theatre)) else None)) }
 {
     let args = message.known_values(alloc)?;
     let actor = actor.resident();
@@ -253,15 +289,31 @@ fn outcome_of<R: Runner>(
         place: u32::from(desk.me()),
         fresh: desk.next_anon(),
     };
-    if !may_be_called(runner, &turn) {
-        return Ok(None);
-    }
-    Ok(Some(runner.handle(alloc, &turn)?))
+    outcome_if_fits(alloc, runner, &turn)
 }
 
-/// The message is handled by the actor.
-#[tactic(auto, unfolding(sal_routing::specs::Handling::handle))]
-fn handle<R: Runner>(
+/// The handler ended, and then an actor that migrates moves.
+#[tactic(auto, using(sal_routing::proofs::Kept::plans_kept), unfolding(sal_routing::specs::Handling::migrate_after))]
+fn take_done<R: Runner>(
+    alloc: Global,
+    runner: &R,
+    desk: &mut Desk<'_>,
+    actor: Standing,
+    message: &Message,
+    effects: Effects,
+) -> Result<(), NoMemory>
+    requires takes { MayTake effects.fields effects.serial effects.messages effects.joins actor }
+    requires few { has_few_nodes desk.old.desk.theatre.plan ≡ true }
+    ensures { OnOk result (desk.new ≡ on_desk (λ d. handling.migrate_after message.now actor (handling.take_effect (R.meaning runner.now) effects message.now actor d)) desk.old) }
+{
+    let name = actor.resident().name.clone_in(alloc)?;
+    take_effect(alloc, runner, desk, actor, message, effects)?;
+    migrate_after(alloc, desk, message, &name)
+}
+
+/// The message, which the actor understands, is handled by it.
+#[tactic(auto, using(crate::proofs::Handled::not_called, crate::proofs::Handled::called, crate::proofs::Handled::may_take))]
+fn handle_understood<R: Runner>(
     alloc: Global,
     runner: &R,
     desk: &mut Desk<'_>,
@@ -269,20 +321,64 @@ fn handle<R: Runner>(
     message: &Message,
 ) -> Result<(), NoMemory>
     requires runner { IsRunner (R.meaning runner.now) }
-    requires fresh { desk.old.theatre.next_anon ≤ 18446744073709550591 }
-    requires plan { has_few_nodes desk.old.theatre.plan ≡ true }
-    ensures { OnOk result (desk.new ≡ handling.handle (R.meaning runner.now) message.now actor desk.old) }
+    requires fresh { desk.old.desk.theatre.next_anon ≤ 18446744073709550591 }
+    requires few { has_few_nodes desk.old.desk.theatre.plan ≡ true }
+    ensures { OnOk result (desk.new ≡ on_desk (handling.handle_understood (R.meaning runner.now) message.now actor) desk.old) }
+{
+    match outcome_of(alloc, runner, desk, &actor, message)? {
+        None => Ok(()),
+        Some(Outcome::Trap(trap)) => fail(alloc, desk, message, FaultKind::Trap(trap)),
+        Some(Outcome::Done(effects)) => take_done(alloc, runner, desk, actor, message, effects),
+    }
+}
+
+/// The message is handled by the actor.
+#[tactic(auto, unfolding(sal_routing::specs::Handling::handle))]
+pub fn handle<R: Runner>(
+    alloc: Global,
+    runner: &R,
+    desk: &mut Desk<'_>,
+    actor: Standing,
+    message: &Message,
+) -> Result<(), NoMemory>
+    requires runner { IsRunner (R.meaning runner.now) }
+    requires fresh { desk.old.desk.theatre.next_anon ≤ 18446744073709550591 }
+    requires few { has_few_nodes desk.old.desk.theatre.plan ≡ true }
+    ensures { OnOk result (desk.new ≡ on_desk (handling.handle (R.meaning runner.now) message.now actor) desk.old) }
 {
     if !understands(&actor, message) {
         return fail(alloc, desk, message, FaultKind::NoHandler);
     }
-    match outcome_of(alloc, runner, desk, &actor, message)? {
-        None => Ok(()),
-        Some(Outcome::Trap(trap)) => fail(alloc, desk, message, FaultKind::Trap(trap)),
-        Some(Outcome::Done(effects)) => {
-            let name = actor.resident().name.clone_in(alloc)?;
-            take_effect(alloc, runner, desk, actor, message, effects)?;
-            migrate_after(alloc, desk, message, &name)
-        }
-    }
+    handle_understood(alloc, runner, desk, actor, message)
+}
+
+// ---- prints
+
+fn null_to(alloc: Global, reply: &Reply) -> Result<List<(Reply, Value)>, NoMemory>
+    ensures { IfOk result (λ given. given ≡ (reply.now, Null) ∷ []) }
+{
+    let mut given = List::new(alloc);
+    given.push((reply.clone_in(alloc)?, Value::Null))?;
+    Ok(given)
+}
+
+/// The text is told, and null is its reply.
+#[tactic(auto, unfolding(sal_routing::specs::Handling::print_message))]
+pub fn print_message<R: Runner>(
+    alloc: Global,
+    runner: &R,
+    desk: &mut Desk<'_>,
+    message: &Message,
+) -> Result<(), NoMemory>
+    requires { has_few_nodes desk.old.desk.theatre.plan ≡ true }
+    ensures { OnOk result (desk.new ≡ on_desk (handling.print_message (R.meaning runner.now) message.now) desk.old) }
+{
+    desk.log(Step::Print {
+        maker: message.maker.clone_in(alloc)?,
+        serial: message.serial,
+    })?;
+    desk.print(message_text(alloc, message)?)?;
+    desk.tell_given(null_to(alloc, &message.reply)?)?;
+    desk.push_work(Item::Answer(0, message.reply.clone_in(alloc)?, Value::Null))?;
+    route(alloc, runner, desk)
 }

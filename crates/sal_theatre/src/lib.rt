@@ -3,8 +3,7 @@
 
 mod arrivals;
 mod creating;
-mod envelopes;
 mod fits;
-mod handling;
 mod holding;
+mod nodes;
 mod routing;

@@ -1,6 +1,10 @@
 //! Routing: one list of calls and replies, from its front.
 
-ghost use Rattle.std.specs.Prelude.{◌≡◌, [], Some, IfOk, OnOk};
+ghost use Rattle.std.specs.Prelude.{◌≡◌, true, if◌then◌else◌, map, Some, IfOk, OnOk};
+ghost use Rattle.sal_value.specs.Spelling.{is_legal};
+ghost use Rattle.sal_mail.specs.declared.message.Target.TheVariants.{Actor};
+ghost use Rattle.sal_node.specs.Links.{has_few_nodes};
+ghost use Rattle.sal_desk.specs.code.Desks.{on_desk};
 ghost use Rattle.sal_routing.specs.State as spec;
 ghost use Rattle.sal_routing.specs.Routing as routing;
 
@@ -11,11 +15,13 @@ use sal_desk::Desk;
 use sal_mail::{Message, Reply, Target};
 use sal_routing::Item;
 use sal_source::Runner;
-use sal_value::{CloneIn, Name, NoMemory, Value};
+use sal_value::{CloneIn, List, Name, NoMemory, Value};
 use std::alloc::Global;
 
+// ---- calls
+
 fn make_ready_if(desk: &mut Desk<'_>, fits: bool, message: Message) -> Result<(), NoMemory>
-    ensures { OnOk result (desk.new ≡ routing.ready_if fits message desk.old) }
+    ensures { OnOk result (desk.new ≡ on_desk (routing.ready_if fits message) desk.old) }
 {
     if !fits {
         return Ok(());
@@ -32,7 +38,8 @@ fn route_to_actor<R: Runner>(
     hops: u32,
     message: Message,
 ) -> Result<(), NoMemory>
-    ensures { OnOk result (desk.new ≡ routing.route_to (R.meaning runner.now) (Actor name.now) hops message desk.old) }
+    requires { has_few_nodes desk.old.desk.theatre.plan ≡ true }
+    ensures { OnOk result (desk.new ≡ on_desk (routing.route_to (R.meaning runner.now) (Actor name.now) hops message) desk.old) }
 {
     if desk.is_here(name) {
         let fits = fits_call(alloc, runner, &message)?;
@@ -59,7 +66,8 @@ fn route_call<R: Runner>(
     hops: u32,
     message: Message,
 ) -> Result<(), NoMemory>
-    ensures { OnOk result (desk.new ≡ routing.route_call (R.meaning runner.now) hops message desk.old) }
+    requires { has_few_nodes desk.old.desk.theatre.plan ≡ true }
+    ensures { OnOk result (desk.new ≡ on_desk (routing.route_call (R.meaning runner.now) hops message) desk.old) }
 {
     if message.delay > 0 {
         return desk.put_delayed(message);
@@ -73,18 +81,35 @@ fn route_call<R: Runner>(
     }
 }
 
-/// What was released joins the end of the list.
-#[tactic(auto, unfolding(sal_routing::specs::Routing::released_items))]
-pub fn add_released(desk: &mut Desk<'_>, released: Released) -> Result<(), NoMemory>
-    ensures { OnOk result (desk.new ≡ spec.with_work (routing.released_items released) desk.old) }
+// ---- replies
+
+/// These messages join the end of the list.
+fn add_messages(desk: &mut Desk<'_>, messages: List<Message>) -> Result<(), NoMemory>
+    ensures { OnOk result (desk.new ≡ on_desk (spec.with_work (map routing.call_made messages)) desk.old) }
 {
-    for message in released.messages.into_vec() {
+    for message in messages.into_vec() {
         desk.push_work(Item::Call(0, message))?;
     }
-    for (reply, value) in released.replies.into_vec() {
+    Ok(())
+}
+
+/// These replies join the end of the list.
+fn add_replies(desk: &mut Desk<'_>, replies: List<(Reply, Value)>) -> Result<(), NoMemory>
+    ensures { OnOk result (desk.new ≡ on_desk (spec.with_work (map routing.answer_made replies)) desk.old) }
+{
+    for (reply, value) in replies.into_vec() {
         desk.push_work(Item::Answer(0, reply, value))?;
     }
     Ok(())
+}
+
+/// What was released joins the end of the list.
+#[tactic(auto, unfolding(sal_routing::specs::Routing::released_items))]
+pub fn add_released(desk: &mut Desk<'_>, released: Released) -> Result<(), NoMemory>
+    ensures { OnOk result (desk.new ≡ on_desk (spec.with_work (routing.released_items released)) desk.old) }
+{
+    add_messages(desk, released.messages)?;
+    add_replies(desk, released.replies)
 }
 
 /// The reply enters its owner's book, or goes on to its owner.
@@ -97,8 +122,9 @@ fn give_owner(
     reply: Reply,
     value: Value,
 ) -> Result<(), NoMemory>
-    requires { spec.owner_of reply ≡ Some owner.now }
-    ensures { OnOk result (desk.new ≡ routing.give_owner owner.now hops reply value desk.old) }
+    requires owner { spec.owner_of reply ≡ Some owner.now }
+    requires few { has_few_nodes desk.old.desk.theatre.plan ≡ true }
+    ensures { OnOk result (desk.new ≡ on_desk (routing.give_owner owner.now hops reply value) desk.old) }
 {
     let Some(actor) = desk.resident(owner) else {
         return send_on(alloc, desk, owner, Item::Answer(hops, reply, value));
@@ -119,7 +145,7 @@ fn owner_of(alloc: Global, reply: &Reply) -> Result<Option<Name>, NoMemory>
 }
 
 fn tell_answer_if_legal(desk: &mut Desk<'_>, number: u64, value: Value) -> Result<(), NoMemory>
-    ensures { OnOk result (desk.new ≡ routing.route_answer 0 (Outside number) value desk.old) }
+    ensures { OnOk result (desk.new ≡ on_desk (λ d. if is_legal value then spec.tell_answer number value d else d) desk.old) }
 {
     if !value.legal() {
         return Ok(());
@@ -135,7 +161,8 @@ fn route_answer(
     reply: Reply,
     value: Value,
 ) -> Result<(), NoMemory>
-    ensures { OnOk result (desk.new ≡ routing.route_answer hops reply value desk.old) }
+    requires { has_few_nodes desk.old.desk.theatre.plan ≡ true }
+    ensures { OnOk result (desk.new ≡ on_desk (routing.route_answer hops reply value) desk.old) }
 {
     if let Some(owner) = owner_of(alloc, &reply)? {
         return give_owner(alloc, desk, &owner, hops, reply, value);
@@ -146,6 +173,8 @@ fn route_answer(
     }
 }
 
+// ---- the list
+
 #[tactic(auto, unfolding(sal_routing::specs::Routing::route_item))]
 fn route_item<R: Runner>(
     alloc: Global,
@@ -153,7 +182,8 @@ fn route_item<R: Runner>(
     desk: &mut Desk<'_>,
     item: Item,
 ) -> Result<(), NoMemory>
-    ensures { OnOk result (desk.new ≡ routing.route_item (R.meaning runner.now) item desk.old) }
+    requires { has_few_nodes desk.old.desk.theatre.plan ≡ true }
+    ensures { OnOk result (desk.new ≡ on_desk (routing.route_item (R.meaning runner.now) item) desk.old) }
 {
     match item {
         Item::Call(hops, message) => route_call(alloc, runner, desk, hops, message),
@@ -162,12 +192,14 @@ fn route_item<R: Runner>(
 }
 
 /// Routes the list to its end.
+#[tactic(auto, using(crate::proofs::Looping::taken, crate::proofs::Looping::falls, sal_routing::proofs::Kept::plans_kept))]
 pub fn route<R: Runner>(
     alloc: Global,
     runner: &R,
     desk: &mut Desk<'_>,
 ) -> Result<(), NoMemory>
-    ensures { OnOk result (desk.new ≡ routing.route (R.meaning runner.now) desk.old) }
+    requires { has_few_nodes desk.old.desk.theatre.plan ≡ true }
+    ensures { OnOk result (desk.new ≡ on_desk (routing.route (R.meaning runner.now)) desk.old) }
 {
     while let Some(item) = desk.take_work() {
         route_item(alloc, runner, desk, item)?;
