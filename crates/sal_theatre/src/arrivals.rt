@@ -143,6 +143,7 @@ fn depart_as(
 }
 
 /// The actor moves where it may. Whether it does.
+#[tactic(auto, using(crate::proofs::Leaving::bytes, crate::proofs::Leaving::moves, crate::proofs::Leaving::may, crate::proofs::Leaving::may_not, crate::proofs::Leaving::left, crate::proofs::Leaving::stayed))]
 fn move_resident(
     alloc: Global,
     desk: &mut Desk<'_>,
@@ -162,8 +163,29 @@ fn move_resident(
     }
 }
 
+/// The actor of this universal name moves where it may. Whether it does.
+#[tactic(auto, using(crate::proofs::Leaving::some_moves, crate::proofs::Leaving::none_moves, crate::proofs::Leaving::some_goes, crate::proofs::Leaving::none_goes))]
+fn move_universal(
+    alloc: Global,
+    desk: &mut Desk<'_>,
+    name: &Uan,
+    to: u8,
+) -> Result<bool, NoMemory>
+    ensures moved { OnOk result (desk.new ≡ on_desk (arrivals.move_to (Universal name.now) to) desk.old) }
+    ensures goes { IfOk result (λ goes. goes ≡ arrivals.goes (Universal name.now) to desk.old.desk.theatre) }
+{
+    let full = Name::Uan(name.clone_in(alloc)?);
+    match desk.resident(&full) {
+        None => Ok(false),
+        Some(actor) => {
+            let actor = actor.clone_in(alloc)?;
+            move_resident(alloc, desk, name, &actor, to)
+        }
+    }
+}
+
 /// The actor moves to another theatre, where it has a universal name and may leave. Whether it does.
-#[tactic(auto, unfolding(sal_routing::specs::Arrivals::move_to, sal_routing::specs::Arrivals::depart, sal_routing::specs::Arrivals::goes))]
+#[tactic(auto, unfolding(sal_routing::specs::Arrivals::move_to, sal_routing::specs::Arrivals::goes))]
 pub fn move_to(
     alloc: Global,
     desk: &mut Desk<'_>,
@@ -174,13 +196,7 @@ pub fn move_to(
     ensures goes { IfOk result (λ goes. goes ≡ arrivals.goes name.now to desk.old.desk.theatre) }
 {
     match name {
-        Name::Uan(universal) => match desk.resident(name) {
-            None => Ok(false),
-            Some(actor) => {
-                let actor = actor.clone_in(alloc)?;
-                move_resident(alloc, desk, universal, &actor, to)
-            }
-        },
+        Name::Uan(name) => move_universal(alloc, desk, name, to),
         Name::Anon(_, _) | Name::Outside(_) => Ok(false),
     }
 }

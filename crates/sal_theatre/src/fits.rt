@@ -1,6 +1,6 @@
 //! What fits the program, and what fits a theatre.
 
-ghost use Rattle.std.specs.Prelude.{◌≡◌, IfOk};
+ghost use Rattle.std.specs.Prelude.{◌≡◌, ◌&&◌, nat_le, length, IfOk};
 ghost use Rattle.std.specs.List.{list_all};
 ghost use Rattle.sal_mail.specs.Message.{is_for};
 ghost use Rattle.sal_routing.specs.Fits as spec;
@@ -90,14 +90,19 @@ fn are_legal_pieces(pieces: &[Piece]) -> bool
     pieces.iter().all(is_legal_piece)
 }
 
+fn are_few_legal_pieces(pieces: &[Piece]) -> bool
+    ensures { result ≡ (nat_le (length pieces.now) 16 && list_all spec.is_legal_piece pieces.now) }
+{
+    pieces.len() <= 16 && are_legal_pieces(pieces)
+}
+
 #[tactic(auto, unfolding(sal_routing::specs::Fits::fits_waiting))]
 fn fits_waiting(actor: &Resident, message: &Message) -> bool
     ensures { result ≡ spec.fits_waiting actor.now message.now }
 {
     actor.name == message.maker
         && message.serial < actor.serial
-        && message.args.len() <= 16
-        && are_legal_pieces(message.args.as_slice())
+        && are_few_legal_pieces(message.args.as_slice())
 }
 
 fn all_fit_waiting(actor: &Resident, messages: &[Message]) -> bool
@@ -140,10 +145,11 @@ fn all_fit_mailbox<R: Runner>(
     alloc: Global,
     runner: &R,
     actor: &Resident,
+    messages: &[Message],
 ) -> Result<bool, NoMemory>
-    ensures { IfOk result (λ fits. fits ≡ list_all (spec.fits_mailbox (R.meaning runner.now) actor.now) actor.now.mailbox) }
+    ensures { IfOk result (λ fits. fits ≡ list_all (spec.fits_mailbox (R.meaning runner.now) actor.now) messages.now) }
 {
-    for message in actor.mailbox.as_slice() {
+    for message in messages {
         if !fits_mailbox(alloc, runner, actor, message)? {
             return Ok(false);
         }
@@ -167,5 +173,5 @@ pub fn fits_move<R: Runner>(
     {
         return Ok(false);
     }
-    all_fit_mailbox(alloc, runner, actor)
+    all_fit_mailbox(alloc, runner, actor, actor.mailbox.as_slice())
 }

@@ -8,6 +8,7 @@ ghost use Rattle.sal_node.specs.Links.{has_few_nodes};
 ghost use Rattle.sal_source.specs.declared.state.Step.TheVariants.{Handle};
 ghost use Rattle.sal_source.specs.Runners.{behavior_or_migrate};
 ghost use Rattle.sal_source.specs.Step.{understands, answer_replies};
+ghost use Rattle.sal_tidy.specs.Tidy.{IsTidy};
 ghost use Rattle.sal_desk.specs.code.Desks.{on_desk, on_theatre};
 ghost use Rattle.sal_desk.specs.code.Effects.{MayTake};
 ghost use Rattle.sal_routing.specs.Routing.{released_items, answer_made, put_resident};
@@ -274,10 +275,11 @@ fn outcome_of<R: Runner>(
     message: &Message,
 ) -> Result<Option<Outcome>, NoMemory>
     requires { desk.now.desk.theatre.next_anon ≤ 18446744073709550591 }
-    ensures { IfOk result (λ o. o ≡ (if handling.may_be_called (R.meaning runner.now) (handling.call_at message.now actor.now desk.now.desk.theatre) then Some ((R.meaning runner.now).outcome (handling.call_at message.now actor.now desk.now.desk.theatre)) else None)) }
+    ensures tidy { IsTidy actor.now }
+    ensures outcome { IfOk result (λ o. o ≡ (if handling.may_be_called (R.meaning runner.now) (handling.call_at message.now actor.now desk.now.desk.theatre) then Some ((R.meaning runner.now).outcome (handling.call_at message.now actor.now desk.now.desk.theatre)) else None)) }
 {
-    let args = message.known_values(alloc)?;
     let actor = actor.resident();
+    let args = message.known_values(alloc)?;
     let turn = Turn {
         me: &actor.name,
         behavior: actor.behavior,

@@ -3,7 +3,12 @@
 
 mod arrivals;
 mod creating;
+mod envelopes;
 mod fits;
+mod handling;
 mod holding;
+mod migrating;
 mod nodes;
+mod outside;
+mod printing;
 mod routing;

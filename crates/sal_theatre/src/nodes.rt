@@ -20,7 +20,6 @@ pub fn theatre_at(plan: &Plan, place: &Ual) -> Option<u8>
 }
 
 /// The naming service of the plan that has this name.
-#[tactic(auto, using(crate::proofs::Few::service_low))]
 pub fn service_for(plan: &Plan, name: &Uan) -> Option<u8>
     requires { has_few_nodes plan.now ≡ true }
     ensures service { result ≡ spec.service_of plan.now name.now }

@@ -4,5 +4,5 @@ use Rattle.sal_theatre.proofs.nodes.theatre_at.Goals as goal
 
 pub overflow_cast-result : goal.overflow_cast-result
 overflow_cast-result c =
-    let low : c.in-Some.theatre < 8 = theatre_low c.args.plan.now c.args.place.now (Some c.in-Some.theatre) c.args.requires c.in-Some.ensures in
+    let low : c.in-Some.theatre < 8 = theatre_low c.args.plan.now c.args.place.now (Some c.in-Some.theatre) c.requires c.in-Some.ensures in
     omega (arith, low)
