@@ -165,12 +165,7 @@ fn move_resident(
 
 /// The actor of this universal name moves where it may. Whether it does.
 #[tactic(auto, using(crate::proofs::Leaving::some_moves, crate::proofs::Leaving::none_moves, crate::proofs::Leaving::some_goes, crate::proofs::Leaving::none_goes))]
-fn move_universal(
-    alloc: Global,
-    desk: &mut Desk<'_>,
-    name: &Uan,
-    to: u8,
-) -> Result<bool, NoMemory>
+fn move_universal(alloc: Global, desk: &mut Desk<'_>, name: &Uan, to: u8) -> Result<bool, NoMemory>
     ensures moved { OnOk result (desk.new ≡ on_desk (arrivals.move_to (Universal name.now) to) desk.old) }
     ensures goes { IfOk result (λ goes. goes ≡ arrivals.goes (Universal name.now) to desk.old.desk.theatre) }
 {
@@ -186,12 +181,7 @@ fn move_universal(
 
 /// The actor moves to another theatre, where it has a universal name and may leave. Whether it does.
 #[tactic(auto, unfolding(sal_routing::specs::Arrivals::move_to, sal_routing::specs::Arrivals::goes))]
-pub fn move_to(
-    alloc: Global,
-    desk: &mut Desk<'_>,
-    name: &Name,
-    to: u8,
-) -> Result<bool, NoMemory>
+pub fn move_to(alloc: Global, desk: &mut Desk<'_>, name: &Name, to: u8) -> Result<bool, NoMemory>
     ensures moved { OnOk result (desk.new ≡ on_desk (arrivals.move_to name.now to) desk.old) }
     ensures goes { IfOk result (λ goes. goes ≡ arrivals.goes name.now to desk.old.desk.theatre) }
 {

@@ -114,7 +114,11 @@ pub fn create_all(
 
 /// New actors stand here.
 #[tactic(auto, using(crate::proofs::Creations::one_newcomer), unfolding(sal_routing::specs::Handling::put_newcomers))]
-pub fn put_newcomers(alloc: Global, desk: &mut Desk<'_>, actors: List<Actor>) -> Result<(), NoMemory>
+pub fn put_newcomers(
+    alloc: Global,
+    desk: &mut Desk<'_>,
+    actors: List<Actor>,
+) -> Result<(), NoMemory>
     ensures { OnOk result (desk.new ≡ on_desk (on_theatre (handling.put_newcomers actors)) desk.old) }
 {
     for actor in actors.into_vec() {

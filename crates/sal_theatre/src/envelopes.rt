@@ -60,7 +60,7 @@ fn is_left_open(
     name: &Uan,
     found: Option<Known>,
 ) -> Result<bool, NoMemory>
-    ensures { IfOk result (λ open. open ≡ turns.is_left_open name.now found desk.now.desk.theatre) }
+    ensures { IfOk result (λ left. left ≡ turns.is_left_open name.now found desk.now.desk.theatre) }
 {
     match found {
         None => Ok(true),
@@ -279,12 +279,7 @@ fn take_create<R: Runner>(
 // ---- actors that move
 
 /// The naming service of the name is told that it moved here.
-fn tell_service(
-    alloc: Global,
-    desk: &mut Desk<'_>,
-    name: &Uan,
-    moves: u64,
-) -> Result<(), NoMemory>
+fn tell_service(alloc: Global, desk: &mut Desk<'_>, name: &Uan, moves: u64) -> Result<(), NoMemory>
     requires { has_few_nodes desk.old.desk.theatre.plan ≡ true }
     ensures { OnOk result (desk.new ≡ on_desk (λ d. tell_service (nodes.service_of d.theatre.plan name.now) (slice_get d.theatre.plan.theatres d.theatre.me) name.now moves d) desk.old) }
 {
@@ -388,7 +383,12 @@ pub fn receive<R: Runner>(
             route_too(alloc, runner, desk, Item::Call(raised(hops), message))
         }
         Envelope::Reply { hops, reply, value } => {
-            route_too(alloc, runner, desk, Item::Answer(raised(hops), reply, value))
+            route_too(
+                alloc,
+                runner,
+                desk,
+                Item::Answer(raised(hops), reply, value),
+            )
         }
         Envelope::Create(actor) => take_create(alloc, runner, desk, actor),
         Envelope::Move(packed) => take_move(alloc, runner, desk, packed.as_slice()),

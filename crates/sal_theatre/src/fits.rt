@@ -1,6 +1,6 @@
 //! What fits the program, and what fits a theatre.
 
-ghost use Rattle.std.specs.Prelude.{◌≡◌, ◌&&◌, nat_le, length, IfOk};
+ghost use Rattle.std.specs.Prelude.{◌≡◌, ◌&&◌, nat_lt, nat_le, length, IfOk};
 ghost use Rattle.std.specs.List.{list_all};
 ghost use Rattle.sal_mail.specs.Message.{is_for};
 ghost use Rattle.sal_routing.specs.Fits as spec;
@@ -96,13 +96,24 @@ fn are_few_legal_pieces(pieces: &[Piece]) -> bool
     pieces.len() <= 16 && are_legal_pieces(pieces)
 }
 
+fn is_same_name(a: &Name, b: &Name) -> bool
+    ensures { result ≡ spec.is_same_name a.now b.now }
+{
+    a == b
+}
+
+/// Whether its number is below the actor's next one, and its arguments are few and legal.
+fn is_low_and_legal(actor: &Resident, message: &Message) -> bool
+    ensures { result ≡ (nat_lt message.now.serial actor.now.serial && (nat_le (length message.now.args) 16 && list_all spec.is_legal_piece message.now.args)) }
+{
+    message.serial < actor.serial && are_few_legal_pieces(message.args.as_slice())
+}
+
 #[tactic(auto, unfolding(sal_routing::specs::Fits::fits_waiting))]
 fn fits_waiting(actor: &Resident, message: &Message) -> bool
     ensures { result ≡ spec.fits_waiting actor.now message.now }
 {
-    actor.name == message.maker
-        && message.serial < actor.serial
-        && are_few_legal_pieces(message.args.as_slice())
+    is_same_name(&actor.name, &message.maker) && is_low_and_legal(actor, message)
 }
 
 fn all_fit_waiting(actor: &Resident, messages: &[Message]) -> bool

@@ -214,7 +214,13 @@ fn take_effect<R: Runner>(
         effects.messages,
         effects.joins,
     )?;
-    tell_replies(alloc, desk, &released.replies, &effects.answer, &message.reply)?;
+    tell_replies(
+        alloc,
+        desk,
+        &released.replies,
+        &effects.answer,
+        &message.reply,
+    )?;
     stand_all(alloc, desk, actor, effects.actors, effects.fresh)?;
     create_all(alloc, desk, &name, effects.creations)?;
     add_work(alloc, desk, released, &effects.answer, &message.reply)?;

@@ -20,13 +20,7 @@ fn elsewhere(me: u8, node: Option<u8>) -> Option<u8>
 {
     match node {
         None => None,
-        Some(node) => {
-            if node == me {
-                None
-            } else {
-                Some(node)
-            }
-        }
+        Some(node) => { if node == me { None } else { Some(node) } }
     }
 }
 
@@ -114,12 +108,7 @@ fn envelope_of(item: Item) -> Envelope
 
 /// Sends the item to the next hop of the name, or holds it.
 #[tactic(auto, unfolding(sal_routing::specs::Routing::send_on))]
-pub fn send_on(
-    alloc: Global,
-    desk: &mut Desk<'_>,
-    name: &Name,
-    item: Item,
-) -> Result<(), NoMemory>
+pub fn send_on(alloc: Global, desk: &mut Desk<'_>, name: &Name, item: Item) -> Result<(), NoMemory>
     requires { has_few_nodes desk.old.desk.theatre.plan ≡ true }
     ensures { OnOk result (desk.new ≡ on_desk (routing.send_on name.now item) desk.old) }
 {

@@ -193,11 +193,7 @@ fn route_item<R: Runner>(
 
 /// Routes the list to its end.
 #[tactic(auto, using(crate::proofs::Looping::taken, crate::proofs::Looping::falls, sal_routing::proofs::Kept::plans_kept))]
-pub fn route<R: Runner>(
-    alloc: Global,
-    runner: &R,
-    desk: &mut Desk<'_>,
-) -> Result<(), NoMemory>
+pub fn route<R: Runner>(alloc: Global, runner: &R, desk: &mut Desk<'_>) -> Result<(), NoMemory>
     requires { has_few_nodes desk.old.desk.theatre.plan ≡ true }
     ensures { OnOk result (desk.new ≡ on_desk (routing.route (R.meaning runner.now)) desk.old) }
 {
