@@ -12,3 +12,6 @@ mod nodes;
 mod outside;
 mod printing;
 mod routing;
+mod theatre;
+
+pub use theatre::{Theatre, Turned};
