@@ -1,6 +1,6 @@
 //! What fits the program, and what fits a theatre.
 
-ghost use Rattle.std.specs.Prelude.{◌≡◌, ◌&&◌, nat_lt, nat_le, length, IfOk};
+ghost use Rattle.std.specs.Prelude.{◌≡◌, ◌&&◌, nat_le, length, IfOk};
 ghost use Rattle.std.specs.List.{list_all};
 ghost use Rattle.sal_mail.specs.Message.{is_for};
 ghost use Rattle.sal_routing.specs.Fits as spec;
@@ -96,32 +96,6 @@ fn are_few_legal_pieces(pieces: &[Piece]) -> bool
     pieces.len() <= 16 && are_legal_pieces(pieces)
 }
 
-fn is_same_name(a: &Name, b: &Name) -> bool
-    ensures { result ≡ spec.is_same_name a.now b.now }
-{
-    a == b
-}
-
-/// Whether its number is below the actor's next one, and its arguments are few and legal.
-fn is_low_and_legal(actor: &Resident, message: &Message) -> bool
-    ensures { result ≡ (nat_lt message.now.serial actor.now.serial && (nat_le (length message.now.args) 16 && list_all spec.is_legal_piece message.now.args)) }
-{
-    message.serial < actor.serial && are_few_legal_pieces(message.args.as_slice())
-}
-
-#[tactic(auto, unfolding(sal_routing::specs::Fits::fits_waiting))]
-fn fits_waiting(actor: &Resident, message: &Message) -> bool
-    ensures { result ≡ spec.fits_waiting actor.now message.now }
-{
-    is_same_name(&actor.name, &message.maker) && is_low_and_legal(actor, message)
-}
-
-fn all_fit_waiting(actor: &Resident, messages: &[Message]) -> bool
-    ensures { result ≡ list_all (spec.fits_waiting actor.now) messages.now }
-{
-    messages.iter().all(|message| fits_waiting(actor, message))
-}
-
 fn all_fit_joins(actor: &Resident, joins: &[Join]) -> bool
     ensures { result ≡ list_all (spec.fits_join actor.now) joins.now }
 {
@@ -166,23 +140,4 @@ fn all_fit_mailbox<R: Runner>(
         }
     }
     Ok(true)
-}
-
-/// Whether the actor may move here with all that it took along.
-#[tactic(auto, unfolding(sal_routing::specs::Fits::fits_move))]
-pub fn fits_move<R: Runner>(
-    alloc: Global,
-    runner: &R,
-    desk: &Desk<'_>,
-    actor: &Resident,
-) -> Result<bool, NoMemory>
-    ensures { IfOk result (λ fits. fits ≡ spec.fits_move (R.meaning runner.now) desk.now.desk.theatre actor.now) }
-{
-    if !fits_arrival(runner, desk, actor)
-        || !all_fit_waiting(actor, actor.book.waiting_messages())
-        || !all_fit_joins(actor, actor.book.open_joins())
-    {
-        return Ok(false);
-    }
-    all_fit_mailbox(alloc, runner, actor, actor.mailbox.as_slice())
 }
