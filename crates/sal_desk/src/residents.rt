@@ -21,10 +21,13 @@ pub struct Residents {
 
 impl Model for Residents {
     ghost use Rattle.sal_resident.specs.declared.resident.Resident as spec;
-    ghost use Rattle.sal_entries.specs.Entries as entries;
+    ghost use Rattle.sal_entries.specs.Entries.{Entries, entries_code};
+    ghost use Rattle.sal_desk.specs.code.Codes.{resident_code};
     ghost use Rattle.sal_desk.specs.code.Keyed.{AreKeyed};
 
-    ghost Value = { entries.Entries spec.Resident };
+    ghost Value = { Entries spec.Resident };
+
+    ghost coded = { entries_code resident_code };
 
     ghost view = { λ r. r.entries };
 

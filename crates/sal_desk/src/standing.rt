@@ -24,12 +24,12 @@ pub struct Standing {
 
 impl Model for Standing {
     ghost use Rattle.sal_resident.specs.declared.resident.Resident as spec;
-    ghost use Rattle.sal_resident.specs.contracts.resident.Resident as resident;
+    ghost use Rattle.sal_desk.specs.code.Codes.{resident_code};
     ghost use Rattle.sal_tidy.specs.Tidy.{IsTidy};
 
     ghost Value = { spec.Resident };
 
-    ghost coded = { resident.the_row.coded };
+    ghost coded = { resident_code };
 
     ghost view = { λ s. s.resident };
 

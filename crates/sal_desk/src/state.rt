@@ -41,8 +41,11 @@ impl Model for State {
     ghost use Rattle.sal_entries.specs.Entries.{values};
     ghost use Rattle.sal_queues.specs.Queues.{filled};
     ghost use Rattle.sal_routing.specs.State as spec;
+    ghost use Rattle.sal_desk.specs.code.Codes.{theatre_code};
 
     ghost Value = { spec.Theatre };
+
+    ghost coded = { theatre_code };
 
     ghost view = { λ s. record {
       me = s.me;

@@ -1,5 +1,5 @@
 -- When what a handler leaves may enter its actor's book.
-use Rattle.std.specs.Prelude.{ℕ, IsTrue, List}
+use Rattle.std.specs.Prelude.{◌≡◌, ℕ, true, List}
 use Rattle.sal_value.specs.declared.value.Value.{Value}
 use Rattle.sal_mail.specs.declared.message.Message.{Message}
 use Rattle.sal_mail.specs.declared.message.Join.{Join}
@@ -13,6 +13,6 @@ after_entry fields serial messages joins r = record r { fields = fields; serial 
 
 -- Numbers follow those in the book, and the actor is tidy after it.
 pub record MayTake (fields : List Value) (serial : ℕ) (messages : List Message) (joins : List Join) (r : Resident) : Type 0 where
-  pub messages : IsTrue (may_follow (message_numbers messages) r.book)
-  pub joins : IsTrue (may_follow (join_numbers joins) r.book)
+  pub messages_follow : may_follow (message_numbers messages) r.book ≡ true
+  pub joins_follow : may_follow (join_numbers joins) r.book ≡ true
   pub tidy : IsTidy (after_entry fields serial messages joins r)
