@@ -1,1 +1,4 @@
+pub mod Desks
+pub mod Holding
 pub mod Keeping
+pub mod Overlays

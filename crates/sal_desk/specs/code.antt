@@ -1,4 +1,5 @@
 pub mod Codes
+pub mod Desks
 pub mod Drafts
 pub mod Effects
 pub mod Keyed

@@ -1,6 +1,6 @@
 //! The desk on which a turn works.
 
-ghost use Rattle.std.specs.Prelude.{◌≡◌, [], ◌∷◌, ◌++◌, filter, option_map, IfOk, IfSome, OnOk};
+ghost use Rattle.std.specs.Prelude.{◌≡◌, [], ◌∷◌, ◌++◌, filter, option_map, IfOk, IfSome, IfNone, OnOk};
 ghost use Rattle.std.specs.Option.{option_copied, option_to_list};
 ghost use Rattle.std.specs.FinMap as fm;
 ghost use Rattle.sal_value.specs.Order.{uan_key};
@@ -15,6 +15,7 @@ ghost use Rattle.sal_routing.specs.Routing as routing;
 ghost use Rattle.sal_routing.specs.Arrivals as arrivals;
 ghost use Rattle.sal_routing.specs.Handling as handling;
 ghost use Rattle.sal_routing.specs.Turns as turns;
+ghost use Rattle.sal_desk.specs.code.Desks.{turning, on_desk, on_theatre};
 ghost use Rattle.sal_desk.specs.code.Drafts.{desk_with, without_taken, is_among};
 
 use crate::draft::Draft;
@@ -43,48 +44,19 @@ pub struct Desk<'t> {
 }
 
 impl<'t> Model for Desk<'t> {
-    ghost use Rattle.sal_routing.specs.State as spec;
+    ghost use Rattle.sal_desk.specs.code.Desks.{Turning, turning, turning_code};
     ghost use Rattle.sal_desk.specs.code.Drafts.{desk_with};
+    ghost use Rattle.sal_queues.specs.Queues.{filled};
+    ghost use Rattle.std.specs.Prelude.{◌≡◌};
 
-    ghost Value = { spec.Desk };
+    ghost Value = { Turning };
 
-    ghost view = { λ d. desk_with d.state.now d.draft };
-}
+    ghost coded = { turning_code };
 
-fn silence(alloc: Global) -> Told
-    ensures { result ≡ spec.silence }
-{
-    Told {
-        log: List::new(alloc),
-        printed: List::new(alloc),
-        faults: List::new(alloc),
-        answers: List::new(alloc),
-        made: List::new(alloc),
-        moved: List::new(alloc),
-        opened: List::new(alloc),
-        given: List::new(alloc),
-    }
-}
+    ghost view = { λ d. turning d.state.now (desk_with d.state.now d.draft) };
 
-fn draft(alloc: Global, clock: u64, next_anon: u64, taken: Option<usize>, reached: Option<u64>) -> Draft {
-    Draft {
-        residents: Residents::new(alloc),
-        taken,
-        left: List::new(alloc),
-        ready: List::new(alloc),
-        reached,
-        delayed: List::new(alloc),
-        released: List::new(alloc),
-        held: Queues::new(alloc),
-        pending: Entries::new(alloc),
-        places: Entries::new(alloc),
-        questions: Entries::new(alloc),
-        clock,
-        next_anon,
-        work: VecDeque::new(alloc),
-        sent: Parcels::new(alloc),
-        told: silence(alloc),
-    }
+    // no empty list is held
+    ghost invariant = { λ d. filled d.state.now.held ≡ d.state.now.held };
 }
 
 /// Whether the name is one of these.
@@ -158,7 +130,7 @@ fn others(alloc: Global, messages: List<Message>, name: &Name) -> Result<List<Me
 
 /// The theatre of a known place.
 fn theatre_of(place: Option<&Known>) -> Option<u8>
-    ensures { result ≡ option_map (λ k. k.theatre) (option_copied place) }
+    ensures { result ≡ option_map (λ k. k.theatre) (option_copied place.entry) }
 {
     match place {
         Some(place) => Some(place.theatre),
@@ -170,82 +142,84 @@ impl<'t> Desk<'t> {
     // ---- a new desk
 
     pub fn new(alloc: Global, state: &'t State) -> Desk<'t>
-        ensures { result ≡ spec.desk state.now }
+        ensures { result ≡ turning state.now (spec.desk state.now) }
     {
         Desk {
             state,
-            draft: draft(alloc, state.clock, state.next_anon, None, None),
+            draft: Draft::new(alloc, state.clock, state.next_anon, None, None),
         }
     }
 
     /// With the ready message at this place taken, which is handled.
     pub fn without_ready(alloc: Global, state: &'t State, i: usize) -> Desk<'t>
-        ensures { result ≡ spec.desk (handling.without_ready i state.now) }
+        ensures { result ≡ turning state.now (spec.desk (handling.without_ready i state.now)) }
     {
         Desk {
             state,
-            draft: draft(alloc, state.clock, state.next_anon, Some(i), None),
+            draft: Draft::new(alloc, state.clock, state.next_anon, Some(i), None),
         }
     }
 
     // ---- what stands there
 
     pub fn me(&self) -> u8
-        ensures { result ≡ self.now.theatre.me }
+        ensures { result ≡ self.now.desk.theatre.me }
     {
-        self.state.me
+        let state = self.state;
+        state.me
     }
 
     pub fn plan(&self) -> &Plan
-        ensures { result.now ≡ self.now.theatre.plan }
+        ensures { result.now ≡ self.now.desk.theatre.plan }
     {
-        &self.state.plan
+        let state = self.state;
+        &state.plan
     }
 
     pub fn clock(&self) -> u64
-        ensures { result ≡ self.now.theatre.clock }
+        ensures { result ≡ self.now.desk.theatre.clock }
     {
         self.draft.clock
     }
 
     /// The number of the next anonymous actor.
     pub fn next_anon(&self) -> u64
-        ensures { result ≡ self.now.theatre.next_anon }
+        ensures { result ≡ self.now.desk.theatre.next_anon }
     {
         self.draft.next_anon
     }
 
     /// The actor of the name that stands here.
     pub fn resident(&self, name: &Name) -> Option<&Standing>
-        ensures resident { option_copied result ≡ fm.get self.now.theatre.residents (name_key name.now) }
+        ensures resident { option_copied result ≡ fm.get self.now.desk.theatre.residents (name_key name.now) }
         ensures named { IfSome result (λ r. r.now.name ≡ name.now) }
     {
-        match self.draft.residents.entry(name) {
-            Some(Some(actor)) => Some(actor),
-            Some(None) => None,
-            None => self.state.residents.get(name),
+        if self.draft.residents.entry(name).is_some() {
+            return self.draft.residents.get(name);
         }
+        let state = self.state;
+        state.residents.get(name)
     }
 
     pub fn is_here(&self, name: &Name) -> bool
-        ensures { result ≡ fits.is_here name.now self.now.theatre }
+        ensures { result ≡ fits.is_here name.now self.now.desk.theatre }
     {
         self.resident(name).is_some()
     }
 
     fn place(&self, name: &Uan) -> Option<&Known>
-        ensures { option_copied result ≡ places.place_of name.now self.now.theatre.places }
+        ensures { option_copied result ≡ places.place_of name.now self.now.desk.theatre.places }
     {
-        match self.draft.places.entry(name) {
-            Some(Some(place)) => Some(place),
-            Some(None) => None,
-            None => self.state.places.get(name),
+        if self.draft.places.contains(name) {
+            return self.draft.places.get(name);
         }
+        let state = self.state;
+        state.places.get(name)
     }
 
     /// The theatre where the actor of the name is known to be.
     pub fn hop(&self, name: &Uan) -> Option<u8>
-        ensures { result ≡ places.hop name.now self.now.theatre.places }
+        ensures { result ≡ places.hop name.now self.now.desk.theatre.places }
     {
         theatre_of(self.place(name))
     }
@@ -253,7 +227,7 @@ impl<'t> Desk<'t> {
     /// Whether a place after so many moves is news.
     #[tactic(auto, unfolding(sal_move::specs::Places::is_news))]
     pub fn is_news(&self, name: &Uan, moves: u64) -> bool
-        ensures { result ≡ places.is_news name.now moves self.now.theatre.places }
+        ensures { result ≡ places.is_news name.now moves self.now.desk.theatre.places }
     {
         match self.place(name) {
             None => true,
@@ -262,18 +236,18 @@ impl<'t> Desk<'t> {
     }
 
     fn question(&self, name: &Uan) -> Option<&Question>
-        ensures { option_copied result ≡ fm.get self.now.theatre.questions (uan_key name.now) }
+        ensures { option_copied result ≡ fm.get self.now.desk.theatre.questions (uan_key name.now) }
     {
-        match self.draft.questions.entry(name) {
-            Some(Some(question)) => Some(question),
-            Some(None) => None,
-            None => self.state.questions.get(name),
+        if self.draft.questions.contains(name) {
+            return self.draft.questions.get(name);
         }
+        let state = self.state;
+        state.questions.get(name)
     }
 
     /// How far the question for the name has come, if it was asked for.
     pub fn asking(&self, name: &Uan) -> Option<Asking>
-        ensures { result ≡ option_map (λ q. q.asking) (fm.get self.now.theatre.questions (uan_key name.now)) }
+        ensures { result ≡ option_map (λ q. q.asking) (fm.get self.now.desk.theatre.questions (uan_key name.now)) }
     {
         match self.question(name) {
             Some(question) => Some(question.asking),
@@ -282,9 +256,19 @@ impl<'t> Desk<'t> {
     }
 
     pub fn was_asked(&self, name: &Uan) -> bool
-        ensures { result ≡ routing.was_asked name.now self.now.theatre }
+        ensures { result ≡ routing.was_asked name.now self.now.desk.theatre }
     {
         self.question(name).is_some()
+    }
+
+    fn pending_at(&self, key: &(u64, Name)) -> Option<&Pending>
+        ensures { option_copied result ≡ fm.get self.now.desk.theatre.pending (made_key key.now.1 key.now.0) }
+    {
+        if self.draft.pending.contains(key) {
+            return self.draft.pending.get(key);
+        }
+        let state = self.state;
+        state.pending.get(key)
     }
 
     /// The creation by this maker with this number that waits here.
@@ -294,15 +278,10 @@ impl<'t> Desk<'t> {
         maker: &Name,
         serial: u64,
     ) -> Result<Option<Pending>, NoMemory>
-        ensures { IfOk result (λ x. x ≡ fm.get self.now.theatre.pending (made_key maker.now serial)) }
+        ensures { IfOk result (λ x. x ≡ fm.get self.now.desk.theatre.pending (made_key maker.now serial)) }
     {
         let key = (serial, maker.clone_in(alloc)?);
-        let pending = match self.draft.pending.entry(&key) {
-            Some(Some(pending)) => Some(pending),
-            Some(None) => None,
-            None => self.state.pending.get(&key),
-        };
-        match pending {
+        match self.pending_at(&key) {
             Some(pending) => Ok(Some(pending.clone_in(alloc)?)),
             None => Ok(None),
         }
@@ -312,14 +291,15 @@ impl<'t> Desk<'t> {
 
     /// Takes the first item that is to be routed.
     pub fn take_work(&mut self) -> Option<Item>
-        ensures work { self.old.work ≡ option_to_list result ++ self.new.work }
-        ensures rest { self.new ≡ record self.old { work = self.new.work } }
+        ensures work { self.old.desk.work ≡ option_to_list result ++ self.new.desk.work }
+        ensures rest { self.new ≡ on_desk (λ d. record d { work = self.new.desk.work }) self.old }
+        ensures none { IfNone result (self.old.desk.work ≡ []) }
     {
         self.draft.work.pop_front()
     }
 
     pub fn push_work(&mut self, item: Item) -> Result<(), NoMemory>
-        ensures { OnOk result (self.new ≡ spec.with_work (item ∷ []) self.old) }
+        ensures { OnOk result (self.new ≡ on_desk (spec.with_work (item ∷ [])) self.old) }
     {
         self.draft.work.push_back(item)?;
         Ok(())
@@ -329,7 +309,7 @@ impl<'t> Desk<'t> {
 
     #[tactic(auto, unfolding(sal_routing::specs::State::send))]
     pub fn send(&mut self, alloc: Global, node: u8, envelope: &Envelope) -> Result<(), NoMemory>
-        ensures { OnOk result (self.new ≡ spec.send node envelope.now self.old) }
+        ensures { OnOk result (self.new ≡ on_desk (spec.send node envelope.now) self.old) }
     {
         match spell(alloc, envelope)? {
             None => Ok(()),
@@ -338,50 +318,51 @@ impl<'t> Desk<'t> {
     }
 
     pub fn log(&mut self, step: Step) -> Result<(), NoMemory>
-        ensures { OnOk result (self.new ≡ spec.log step self.old) }
+        ensures { OnOk result (self.new ≡ on_desk (spec.log step) self.old) }
     {
         self.draft.told.log.push(step)
     }
 
     pub fn tell_fault(&mut self, fault: Fault) -> Result<(), NoMemory>
-        ensures { OnOk result (self.new ≡ spec.tell_fault fault self.old) }
+        ensures { OnOk result (self.new ≡ on_desk (spec.tell_fault fault) self.old) }
     {
         self.draft.told.faults.push(fault)
     }
 
     pub fn tell_answer(&mut self, number: u64, value: Value) -> Result<(), NoMemory>
-        ensures { OnOk result (self.new ≡ spec.tell_answer number value self.old) }
+        ensures { OnOk result (self.new ≡ on_desk (spec.tell_answer number value) self.old) }
     {
         self.draft.told.answers.push((number, value))
     }
 
     pub fn tell_given(&mut self, given: List<(Reply, Value)>) -> Result<(), NoMemory>
-        ensures { OnOk result (self.new ≡ spec.tell_given given self.old) }
+        ensures { OnOk result (self.new ≡ on_desk (spec.tell_given given) self.old) }
     {
         self.draft.told.given.append(given)
     }
 
     pub fn print(&mut self, text: Text) -> Result<(), NoMemory>
-        ensures { OnOk result (self.new ≡ spec.print text self.old) }
+        ensures { OnOk result (self.new ≡ on_desk (spec.print text) self.old) }
     {
         self.draft.told.printed.push(text)
     }
 
     /// A new actor stands here.
     pub fn tell_made(&mut self, name: Name) -> Result<(), NoMemory>
-        ensures { OnOk result (self.new ≡ record self.old { told = record self.old.told { made = self.old.told.made ++ (name, self.old.theatre.me) ∷ [] } }) }
+        ensures { OnOk result (self.new ≡ on_desk (λ d. record d { told = record d.told { made = d.told.made ++ (name, d.theatre.me) ∷ [] } }) self.old) }
     {
-        self.draft.told.made.push((name, self.state.me))
+        let state = self.state;
+        self.draft.told.made.push((name, state.me))
     }
 
     pub fn tell_moved(&mut self, name: Name, to: u8) -> Result<(), NoMemory>
-        ensures { OnOk result (self.new ≡ arrivals.tell_moved name to self.old) }
+        ensures { OnOk result (self.new ≡ on_desk (arrivals.tell_moved name to) self.old) }
     {
         self.draft.told.moved.push((name, to))
     }
 
     pub fn tell_opened(&mut self, owner: Name, join: Join) -> Result<(), NoMemory>
-        ensures { OnOk result (self.new ≡ record self.old { told = record self.old.told { opened = self.old.told.opened ++ (owner, join) ∷ [] } }) }
+        ensures { OnOk result (self.new ≡ on_desk (λ d. record d { told = record d.told { opened = d.told.opened ++ (owner, join) ∷ [] } }) self.old) }
     {
         self.draft.told.opened.push((owner, join))
     }
@@ -389,14 +370,14 @@ impl<'t> Desk<'t> {
     // ---- messages
 
     pub fn make_ready(&mut self, message: Message) -> Result<(), NoMemory>
-        ensures { OnOk result (self.new ≡ spec.make_ready message self.old) }
+        ensures { OnOk result (self.new ≡ on_desk (spec.make_ready message) self.old) }
     {
         self.draft.ready.push(message)
     }
 
     #[tactic(auto, unfolding(sal_routing::specs::Routing::put_delayed))]
     pub fn put_delayed(&mut self, message: Message) -> Result<(), NoMemory>
-        ensures { OnOk result (self.new ≡ routing.put_delayed message self.old) }
+        ensures { OnOk result (self.new ≡ on_desk (routing.put_delayed message) self.old) }
     {
         let moment = self.draft.clock.saturating_add(u64::from(message.delay));
         self.draft.delayed.push((moment, message.without_delay()))
@@ -404,7 +385,7 @@ impl<'t> Desk<'t> {
 
     #[tactic(auto, unfolding(sal_routing::specs::Routing::put_held))]
     pub fn put_held(&mut self, alloc: Global, name: Name, item: Item) -> Result<(), NoMemory>
-        ensures { OnOk result (self.new ≡ routing.put_held name item self.old) }
+        ensures { OnOk result (self.new ≡ on_desk (routing.put_held name item) self.old) }
     {
         self.draft.held.push(alloc, name, item)
     }
@@ -412,7 +393,7 @@ impl<'t> Desk<'t> {
     /// What is held for the name joins the work.
     #[tactic(auto, unfolding(sal_routing::specs::Routing::release_held))]
     pub fn release_held(&mut self, alloc: Global, name: &Name) -> Result<(), NoMemory>
-        ensures { OnOk result (self.new ≡ routing.release_held name.now self.old) }
+        ensures { OnOk result (self.new ≡ on_desk (routing.release_held name.now) self.old) }
     {
         if !is_among(self.draft.released.as_slice(), name) {
             for item in self.state.held.copies(alloc, name)?.into_vec() {
@@ -431,20 +412,20 @@ impl<'t> Desk<'t> {
 
     /// The actor stands here, at its name.
     pub fn put_resident(&mut self, alloc: Global, actor: Standing) -> Result<(), NoMemory>
-        ensures { OnOk result (self.new ≡ record self.old { theatre = routing.put_resident actor self.old.theatre }) }
+        ensures { OnOk result (self.new ≡ on_desk (on_theatre (routing.put_resident actor)) self.old) }
     {
         self.draft.residents.put(alloc, actor)
     }
 
     pub fn set_next_anon(&mut self, next: u64)
-        ensures { self.new ≡ record self.old { theatre = record self.old.theatre { next_anon = next } } }
+        ensures { self.new ≡ on_desk (on_theatre (λ t. record t { next_anon = next })) self.old }
     {
         self.draft.next_anon = next;
     }
 
     /// The calls that are ready for an actor.
     pub fn calls_for(&self, alloc: Global, name: &Name) -> Result<List<Message>, NoMemory>
-        ensures { IfOk result (λ calls. calls ≡ filter (is_for name.now) self.now.theatre.ready) }
+        ensures { IfOk result (λ calls. calls ≡ filter (is_for name.now) self.now.desk.theatre.ready) }
     {
         let mut calls = List::new(alloc);
         if !is_among(self.draft.left.as_slice(), name) {
@@ -456,7 +437,7 @@ impl<'t> Desk<'t> {
 
     /// The actor isn't here any more, and neither are its ready calls.
     pub fn remove_resident(&mut self, alloc: Global, actor: &Standing) -> Result<(), NoMemory>
-        ensures { OnOk result (self.new ≡ record self.old { theatre = arrivals.without_resident actor.now self.old.theatre }) }
+        ensures { OnOk result (self.new ≡ on_desk (on_theatre (arrivals.without_resident actor.now)) self.old) }
     {
         let name = &actor.resident().name;
         let ready = mem::replace(&mut self.draft.ready, List::new(alloc));
@@ -469,7 +450,7 @@ impl<'t> Desk<'t> {
 
     #[tactic(auto, unfolding(sal_routing::specs::Arrivals::put_place))]
     pub fn put_place(&mut self, name: Uan, theatre: u8, moves: u64) -> Result<(), NoMemory>
-        ensures { OnOk result (self.new ≡ arrivals.put_place name theatre moves self.old) }
+        ensures { OnOk result (self.new ≡ on_desk (arrivals.put_place name theatre moves) self.old) }
     {
         if !self.is_news(&name, moves) {
             return Ok(());
@@ -478,7 +459,7 @@ impl<'t> Desk<'t> {
     }
 
     pub fn put_question(&mut self, alloc: Global, question: Question) -> Result<(), NoMemory>
-        ensures { OnOk result (self.new ≡ record self.old { theatre = routing.put_question question self.old.theatre }) }
+        ensures { OnOk result (self.new ≡ on_desk (on_theatre (routing.put_question question)) self.old) }
     {
         let name = question.name.clone_in(alloc)?;
         self.draft.questions.set(name, Some(question))
@@ -486,7 +467,7 @@ impl<'t> Desk<'t> {
 
     #[tactic(auto, unfolding(sal_routing::specs::Handling::put_pending))]
     pub fn put_pending(&mut self, alloc: Global, pending: Pending) -> Result<(), NoMemory>
-        ensures { OnOk result (self.new ≡ handling.put_pending pending self.old) }
+        ensures { OnOk result (self.new ≡ on_desk (handling.put_pending pending) self.old) }
     {
         let key = (pending.creation.serial, pending.maker.clone_in(alloc)?);
         self.draft.pending.set(key, Some(pending))
@@ -494,7 +475,7 @@ impl<'t> Desk<'t> {
 
     #[tactic(auto, unfolding(sal_routing::specs::Turns::drop_pending))]
     pub fn drop_pending(&mut self, maker: Name, serial: u64) -> Result<(), NoMemory>
-        ensures { OnOk result (self.new ≡ turns.drop_pending maker serial self.old) }
+        ensures { OnOk result (self.new ≡ on_desk (turns.drop_pending maker serial) self.old) }
     {
         self.draft.pending.set((serial, maker), None)
     }
@@ -503,7 +484,7 @@ impl<'t> Desk<'t> {
 
     /// The changes, to be made at the end of the turn.
     pub fn into_draft(self) -> Draft
-        ensures { desk_with self.entry.state.now result ≡ self.entry }
+        ensures { desk_with self.entry.before result ≡ self.entry.desk }
     {
         self.draft
     }

@@ -1,5 +1,8 @@
 //! What a turn will change.
 
+ghost use Rattle.std.specs.Prelude.{◌≡◌};
+ghost use Rattle.sal_routing.specs.State as spec;
+
 use crate::parcels::Parcels;
 use crate::residents::Residents;
 use sal_entries::Entries;
@@ -8,7 +11,9 @@ use sal_move::Known;
 use sal_queues::Queues;
 use sal_routing::{Item, Pending, Question, Told};
 use sal_value::{List, Name, Uan};
+use std::alloc::Global;
 use std::collections::VecDeque;
+use std::mem;
 
 /// The changes of a turn, which are made all at once at its end; what is still to be routed; what will be sent; and
 /// what is told.
@@ -37,4 +42,61 @@ pub struct Draft {
     pub(crate) work: VecDeque<Item>,
     pub(crate) sent: Parcels,
     pub(crate) told: Told,
+}
+
+pub(crate) fn silence(alloc: Global) -> Told
+    ensures { result ≡ spec.silence }
+{
+    Told {
+        log: List::new(alloc),
+        printed: List::new(alloc),
+        faults: List::new(alloc),
+        answers: List::new(alloc),
+        made: List::new(alloc),
+        moved: List::new(alloc),
+        opened: List::new(alloc),
+        given: List::new(alloc),
+    }
+}
+
+impl Draft {
+    ghost use Rattle.sal_desk.specs.code.Drafts.{desk_with, theatre_at};
+
+    /// Changes that only take the ready message at this place, or the delayed ones whose moments are reached.
+    pub(crate) fn new(
+        alloc: Global,
+        clock: u64,
+        next_anon: u64,
+        taken: Option<usize>,
+        reached: Option<u64>,
+    ) -> Draft
+        ensures { (t : spec.Theatre) → desk_with t result ≡ spec.desk (theatre_at clock next_anon taken reached t) }
+    {
+        Draft {
+            residents: Residents::new(alloc),
+            taken,
+            left: List::new(alloc),
+            ready: List::new(alloc),
+            reached,
+            delayed: List::new(alloc),
+            released: List::new(alloc),
+            held: Queues::new(alloc),
+            pending: Entries::new(alloc),
+            places: Entries::new(alloc),
+            questions: Entries::new(alloc),
+            clock,
+            next_anon,
+            work: VecDeque::new(alloc),
+            sent: Parcels::new(alloc),
+            told: silence(alloc),
+        }
+    }
+
+    /// Takes out what is told.
+    pub fn take_told(&mut self, alloc: Global) -> Told
+        ensures told { result ≡ self.old.told }
+        ensures rest { self.new ≡ record self.old { told = spec.silence } }
+    {
+        mem::replace(&mut self.told, silence(alloc))
+    }
 }

@@ -39,7 +39,16 @@ unfoldable pub without_held : List Name → Table (List Item) → Table (List It
 without_held [] held = held
 without_held (n ∷ ns) held = without_held ns (write held (name_key n) None)
 
-unfoldable pub theatre_with : Theatre → Draft → Theatre
+-- the theatre with this clock and this next number, without the message at this place and without those that are reached
+abbrev pub theatre_at : ℕ → ℕ → Option ℕ → Option ℕ → Theatre → Theatre
+theatre_at clock next_anon taken moment t = record t {
+  ready = without_taken taken t.ready;
+  delayed = without_reached moment t.delayed;
+  clock = clock;
+  next_anon = next_anon;
+}
+
+abbrev pub theatre_with : Theatre → Draft → Theatre
 theatre_with t d = record t {
   residents = overlaid d.residents t.residents;
   ready = without_calls d.left (without_taken d.taken t.ready) ++ d.ready;
@@ -52,7 +61,7 @@ theatre_with t d = record t {
   next_anon = d.next_anon;
 }
 
-unfoldable pub desk_with : Theatre → Draft → Desk
+abbrev pub desk_with : Theatre → Draft → Desk
 desk_with t d = record { theatre = theatre_with t d; work = d.work.items; sent = d.sent; told = d.told }
 
 -- The turn's changes are made and what it sends is offered, or a link is spent and nothing is done.
