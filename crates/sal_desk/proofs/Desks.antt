@@ -1,15 +1,35 @@
 -- What a draft makes of a theatre.
-use Rattle.std.proofs.Common.{◌≡◌, Bool, true, false, List, [], ◌++◌, Option, Some, None, refl, sym, ap, ◌∙◌, append-nil}
+use Rattle.std.proofs.Common.{◌≡◌, ℕ, Bool, true, false, if◌then◌else◌, List, [], ◌∷◌, ◌++◌, Option, Some, None, refl, sym, ap, ◌∙◌, append-nil}
 use Rattle.std.specs.FinMap as fm
-use Rattle.sal_value.specs.Table.{Table}
+use Rattle.sal_value.specs.Order.{uan_key}
+use Rattle.sal_value.specs.Table.{Table, write}
+use Rattle.sal_value.specs.declared.name.Name.{Name}
 use Rattle.sal_value.specs.declared.name.Uan.{Uan}
+use Rattle.sal_value.proofs.Tables.{some_is}
+use Rattle.sal_mail.specs.declared.envelope.Envelope.{Envelope}
+use Rattle.sal_source.specs.Keys.{name_key, made_key}
+use Rattle.sal_resident.specs.declared.resident.Resident.{Resident}
+use Rattle.sal_move.specs.declared.places.Known.{Known}
+use Rattle.sal_move.specs.Places.{is_news, with_place}
+use Rattle.sal_entries.specs.Entries.{Entries, overlaid}
 use Rattle.sal_entries.proofs.Laws.{overlaid-none}
+use Rattle.sal_queues.specs.Queues.{Queues, queue_of, filled}
 use Rattle.sal_queues.proofs.Laws.{filled-filled}
 use Rattle.sal_queues.proofs.Rooms.{joined_none}
-use Rattle.sal_queues.specs.Queues.{Queues, filled}
-use Rattle.sal_routing.specs.State.{Theatre, Desk, desk, silence}
+use Rattle.sal_spelled.specs.Sending.{may_be_sent, bytes_to_send}
+use Rattle.sal_routing.specs.declared.item.Item.{Item}
+use Rattle.sal_routing.specs.declared.pending.Pending.{Pending}
+use Rattle.sal_routing.specs.declared.pending.Question.{Question}
+use Rattle.sal_routing.specs.State.{Theatre, Desk, desk, silence, parcel_to, send}
+use Rattle.sal_routing.specs.Routing.{put_resident, put_question, put_held}
+use Rattle.sal_routing.specs.Arrivals.{put_place}
+use Rattle.sal_routing.specs.Handling.{put_pending}
+use Rattle.sal_routing.specs.Turns.{drop_pending}
 use Rattle.sal_desk.specs.declared.draft.Draft.{Draft}
+use Rattle.sal_desk.specs.code.Desks.{Turning, turning, on_desk, on_theatre}
 use Rattle.sal_desk.specs.code.Drafts.{without_taken, without_reached, without_calls, without_held, theatre_at, theatre_with, desk_with}
+use Rattle.sal_desk.proofs.Holding.{filled_without, one_more}
+use Rattle.sal_desk.proofs.Overlays.{changed}
 
 -- where nothing is changed but what the draft begins with
 pub fresh : (t : Theatre) (d : Draft) → d.residents ≡ fm.empty → d.left ≡ [] → d.ready ≡ [] → d.delayed ≡ [] → d.released ≡ [] → d.held ≡ fm.empty → d.pending ≡ fm.empty → d.places ≡ fm.empty → d.questions ≡ fm.empty → d.work.items ≡ [] → d.sent ≡ [] → d.told ≡ silence →
@@ -41,3 +61,78 @@ fresh t d residents left ready delayed released held pending places questions wo
 -- what is held shows no empty list
 pub held_filled : {X : Type 0} (t : Queues X) (u : Queues X) → filled t ≡ u → filled u ≡ u
 held_filled t u is = ap filled (sym is) ∙ filled-filled t ∙ is
+
+-- ---- small changes
+
+module _ (t : Theatre) (d : Draft) where
+  pub residents_put : (r : Resident) (e : Entries Resident) → e ≡ write d.residents (name_key r.name) (Some (Some r)) →
+      turning t (desk_with t (record d { residents = e })) ≡ on_desk (on_theatre (put_resident r)) (turning t (desk_with t d))
+  residents_put r e is = ap (λ (x : Table Resident). turning t (record (desk_with t d) { theatre = record (theatre_with t d) { residents = x } })) (changed d.residents t.residents (name_key r.name) (Some r) e is)
+
+  pub questions_put : (q : Question) (e : Entries Question) (n : Uan) → n ≡ q.name → e ≡ write d.questions (uan_key n) (Some (Some q)) →
+      turning t (desk_with t (record d { questions = e })) ≡ on_desk (on_theatre (put_question q)) (turning t (desk_with t d))
+  questions_put q e n same is =
+      ap (λ (x : Table Question). turning t (record (desk_with t d) { theatre = record (theatre_with t d) { questions = x } })) (
+      changed d.questions t.questions (uan_key n) (Some q) e is ∙ ap (λ m. write (overlaid d.questions t.questions) (uan_key m) (Some q)) same)
+
+  pub pending_put : (x : Pending) (e : Entries Pending) (n : Name) → n ≡ x.maker → e ≡ write d.pending (made_key n x.creation.serial) (Some (Some x)) →
+      turning t (desk_with t (record d { pending = e })) ≡ on_desk (put_pending x) (turning t (desk_with t d))
+  pending_put x e n same is =
+      ap (λ (y : Table Pending). turning t (record (desk_with t d) { theatre = record (theatre_with t d) { pending = y } })) (
+      changed d.pending t.pending (made_key n x.creation.serial) (Some x) e is ∙ ap (λ m. write (overlaid d.pending t.pending) (made_key m x.creation.serial) (Some x)) same)
+
+  pub pending_dropped : (maker : Name) (serial : ℕ) (e : Entries Pending) → e ≡ write d.pending (made_key maker serial) (Some None) →
+      turning t (desk_with t (record d { pending = e })) ≡ on_desk (drop_pending maker serial) (turning t (desk_with t d))
+  unfolding drop_pending
+  pending_dropped maker serial e is =
+      ap (λ (y : Table Pending). turning t (record (desk_with t d) { theatre = record (theatre_with t d) { pending = y } })) (changed d.pending t.pending (made_key maker serial) None e is)
+
+  -- one more is held
+  pub held_put : (n : Name) (x : Item) (q : Queues Item) → filled t.held ≡ t.held → filled q ≡ write (filled d.held) (name_key n) (Some (queue_of (name_key n) (filled d.held) ++ x ∷ [])) →
+      turning t (desk_with t (record d { held = q })) ≡ on_desk (put_held n x) (turning t (desk_with t d))
+  unfolding put_held
+  held_put n x q h is =
+      ap (λ (y : Queues Item). turning t (record (desk_with t d) { theatre = record (theatre_with t d) { held = y } })) (
+      one_more d.held q (without_held d.released t.held) (name_key n) x (filled_without d.released t.held h) is)
+
+  -- a place that is news
+  pub place_put : (u : Uan) (theatre moves : ℕ) (e : Entries Known) (x : Turning) (news : Bool) → turning t (desk_with t d) ≡ x → news ≡ is_news u moves x.desk.theatre.places → news ≡ true →
+      e ≡ write d.places (uan_key u) (Some (Some (record { theatre = theatre; moves = moves }))) → turning t (desk_with t (record d { places = e })) ≡ on_desk (put_place u theatre moves) x
+  unfolding put_place with_place
+  place_put u theatre moves e x news view says is_true is =
+      let k : Known = record { theatre = theatre; moves = moves } in
+      ap (λ (y : Table Known). turning t (record (desk_with t d) { theatre = record (theatre_with t d) { places = y } })) (
+      changed d.places t.places (uan_key u) (Some k) e is
+      ∙ ap (λ (b : Bool). if b then write (overlaid d.places t.places) (uan_key u) (Some k) else overlaid d.places t.places) (
+        sym is_true ∙ says ∙ ap (λ (y : Turning). is_news u moves y.desk.theatre.places) (sym view)))
+      ∙ ap (on_desk (put_place u theatre moves)) view
+
+-- a place that isn't
+pub place_kept : (u : Uan) (theatre moves : ℕ) (x : Turning) (news : Bool) → news ≡ is_news u moves x.desk.theatre.places → news ≡ false → x ≡ on_desk (put_place u theatre moves) x
+unfolding put_place with_place
+place_kept u theatre moves x news says is_false =
+    ap (λ (b : Bool). turning x.before (record x.desk {
+      theatre = record x.desk.theatre {
+        places = if b then write x.desk.theatre.places (uan_key u) (Some (record { theatre = theatre; moves = moves })) else x.desk.theatre.places;
+      };
+    })) (sym is_false ∙ says)
+
+-- ---- what is sent
+
+pub unsent : (x : Turning) (node : ℕ) (e : Envelope) → None ≡ bytes_to_send e → x ≡ on_desk (send node e) x
+unfolding send bytes_to_send
+unsent x node e = at (may_be_sent e)
+  where
+    at : (b : Bool) → None ≡ (if b then Some (parcel_to node e).bytes else None) → x ≡ turning x.before (if b then record x.desk { sent = x.desk.sent ++ parcel_to node e ∷ [] } else x.desk)
+    at true h = absurd (let f : None ≡ Some (parcel_to node e).bytes = h in cc)
+    at false h = refl
+
+pub sent_on : (x : Turning) (node : ℕ) (e : Envelope) (bytes : List ℕ) → Some bytes ≡ bytes_to_send e →
+    turning x.before (record x.desk { sent = x.desk.sent ++ record { to = node; bytes = bytes } ∷ [] }) ≡ on_desk (send node e) x
+unfolding send bytes_to_send
+sent_on x node e bytes = at (may_be_sent e)
+  where
+    at : (b : Bool) → Some bytes ≡ (if b then Some (parcel_to node e).bytes else None) →
+        turning x.before (record x.desk { sent = x.desk.sent ++ record { to = node; bytes = bytes } ∷ [] }) ≡ turning x.before (if b then record x.desk { sent = x.desk.sent ++ parcel_to node e ∷ [] } else x.desk)
+    at true h = ap (λ (bs : List ℕ). turning x.before (record x.desk { sent = x.desk.sent ++ record { to = node; bytes = bs } ∷ [] })) (some_is h)
+    at false h = absurd (let f : Some bytes ≡ None = h in cc)

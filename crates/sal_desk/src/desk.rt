@@ -4,6 +4,7 @@ ghost use Rattle.std.specs.Prelude.{◌≡◌, [], ◌∷◌, ◌++◌, filter, 
 ghost use Rattle.std.specs.Option.{option_copied, option_to_list};
 ghost use Rattle.std.specs.FinMap as fm;
 ghost use Rattle.sal_value.specs.Order.{uan_key};
+ghost use Rattle.sal_value.specs.Table.{key_eq};
 ghost use Rattle.sal_value.specs.declared.name.Name.TheVariants.{Uan as Universal};
 ghost use Rattle.sal_mail.specs.Message.{is_for, is_not_for};
 ghost use Rattle.sal_source.specs.Keys.{name_key, made_key};
@@ -59,16 +60,17 @@ impl<'t> Model for Desk<'t> {
     ghost invariant = { λ d. filled d.state.now.held ≡ d.state.now.held };
 }
 
+fn is_same_name(one: &Name, other: &Name) -> bool
+    ensures { result ≡ key_eq (name_key one.now) (name_key other.now) }
+{
+    one == other
+}
+
 /// Whether the name is one of these.
 fn is_among(names: &[Name], name: &Name) -> bool
     ensures { result ≡ is_among name.now names.now }
 {
-    for one in names {
-        if one == name {
-            return true;
-        }
-    }
-    false
+    names.iter().any(|one| is_same_name(one, name))
 }
 
 fn is_for(message: &Message, name: &Name) -> bool
@@ -307,7 +309,6 @@ impl<'t> Desk<'t> {
 
     // ---- what is told and sent
 
-    #[tactic(auto, unfolding(sal_routing::specs::State::send))]
     pub fn send(&mut self, alloc: Global, node: u8, envelope: &Envelope) -> Result<(), NoMemory>
         ensures { OnOk result (self.new ≡ on_desk (spec.send node envelope.now) self.old) }
     {
@@ -383,7 +384,6 @@ impl<'t> Desk<'t> {
         self.draft.delayed.push((moment, message.without_delay()))
     }
 
-    #[tactic(auto, unfolding(sal_routing::specs::Routing::put_held))]
     pub fn put_held(&mut self, alloc: Global, name: Name, item: Item) -> Result<(), NoMemory>
         ensures { OnOk result (self.new ≡ on_desk (routing.put_held name item) self.old) }
     {
@@ -448,7 +448,6 @@ impl<'t> Desk<'t> {
 
     // ---- places, questions, creations
 
-    #[tactic(auto, unfolding(sal_routing::specs::Arrivals::put_place))]
     pub fn put_place(&mut self, name: Uan, theatre: u8, moves: u64) -> Result<(), NoMemory>
         ensures { OnOk result (self.new ≡ on_desk (arrivals.put_place name theatre moves) self.old) }
     {
@@ -465,7 +464,6 @@ impl<'t> Desk<'t> {
         self.draft.questions.set(name, Some(question))
     }
 
-    #[tactic(auto, unfolding(sal_routing::specs::Handling::put_pending))]
     pub fn put_pending(&mut self, alloc: Global, pending: Pending) -> Result<(), NoMemory>
         ensures { OnOk result (self.new ≡ on_desk (handling.put_pending pending) self.old) }
     {
@@ -473,7 +471,6 @@ impl<'t> Desk<'t> {
         self.draft.pending.set(key, Some(pending))
     }
 
-    #[tactic(auto, unfolding(sal_routing::specs::Turns::drop_pending))]
     pub fn drop_pending(&mut self, maker: Name, serial: u64) -> Result<(), NoMemory>
         ensures { OnOk result (self.new ≡ on_desk (turns.drop_pending maker serial) self.old) }
     {
