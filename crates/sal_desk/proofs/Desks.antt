@@ -1,11 +1,13 @@
 -- What a draft makes of a theatre.
-use Rattle.std.proofs.Common.{◌≡◌, ℕ, Bool, true, false, if◌then◌else◌, List, [], ◌∷◌, ◌++◌, Option, Some, None, refl, sym, ap, ◌∙◌, append-nil}
+use Rattle.std.proofs.Common.{◌≡◌, ℕ, Bool, true, false, if◌then◌else◌, List, [], ◌∷◌, ◌++◌, Option, Some, None, refl, sym, ap, ◌∙◌, append-nil, append_assoc, filter}
 use Rattle.std.specs.FinMap as fm
 use Rattle.sal_value.specs.Order.{uan_key}
 use Rattle.sal_value.specs.Table.{Table, write}
 use Rattle.sal_value.specs.declared.name.Name.{Name}
 use Rattle.sal_value.specs.declared.name.Uan.{Uan}
 use Rattle.sal_value.proofs.Tables.{some_is}
+use Rattle.sal_mail.specs.declared.message.Message.{Message}
+use Rattle.sal_mail.specs.Message.{is_not_for}
 use Rattle.sal_mail.specs.declared.envelope.Envelope.{Envelope}
 use Rattle.sal_source.specs.Keys.{name_key, made_key}
 use Rattle.sal_resident.specs.declared.resident.Resident.{Resident}
@@ -13,23 +15,24 @@ use Rattle.sal_move.specs.declared.places.Known.{Known}
 use Rattle.sal_move.specs.Places.{is_news, with_place}
 use Rattle.sal_entries.specs.Entries.{Entries, overlaid}
 use Rattle.sal_entries.proofs.Laws.{overlaid-none}
-use Rattle.sal_queues.specs.Queues.{Queues, queue_of, filled}
-use Rattle.sal_queues.proofs.Laws.{filled-filled}
+use Rattle.sal_queues.specs.Queues.{Queues, queue_of, filled, joined}
+use Rattle.sal_queues.proofs.Laws.{filled-filled, queue_of-joined}
 use Rattle.sal_queues.proofs.Rooms.{joined_none}
 use Rattle.sal_spelled.specs.Sending.{may_be_sent, bytes_to_send}
 use Rattle.sal_routing.specs.declared.item.Item.{Item}
 use Rattle.sal_routing.specs.declared.pending.Pending.{Pending}
 use Rattle.sal_routing.specs.declared.pending.Question.{Question}
 use Rattle.sal_routing.specs.State.{Theatre, Desk, desk, silence, parcel_to, send}
-use Rattle.sal_routing.specs.Routing.{put_resident, put_question, put_held}
-use Rattle.sal_routing.specs.Arrivals.{put_place}
+use Rattle.sal_routing.specs.Routing.{put_resident, put_question, put_held, release_held}
+use Rattle.sal_routing.specs.Arrivals.{put_place, without_resident}
 use Rattle.sal_routing.specs.Handling.{put_pending}
 use Rattle.sal_routing.specs.Turns.{drop_pending}
 use Rattle.sal_desk.specs.declared.draft.Draft.{Draft}
 use Rattle.sal_desk.specs.code.Desks.{Turning, turning, on_desk, on_theatre}
 use Rattle.sal_desk.specs.code.Drafts.{without_taken, without_reached, without_calls, without_held, theatre_at, theatre_with, desk_with}
-use Rattle.sal_desk.proofs.Holding.{filled_without, one_more}
+use Rattle.sal_desk.proofs.Holding.{filled_without, one_more, none_held, without_last}
 use Rattle.sal_desk.proofs.Overlays.{changed}
+use Rattle.sal_desk.proofs.Ready.{leaves}
 
 -- where nothing is changed but what the draft begins with
 pub fresh : (t : Theatre) (d : Draft) → d.residents ≡ fm.empty → d.left ≡ [] → d.ready ≡ [] → d.delayed ≡ [] → d.released ≡ [] → d.held ≡ fm.empty → d.pending ≡ fm.empty → d.places ≡ fm.empty → d.questions ≡ fm.empty → d.work.items ≡ [] → d.sent ≡ [] → d.told ≡ silence →
@@ -136,3 +139,37 @@ sent_on x node e bytes = at (may_be_sent e)
         turning x.before (record x.desk { sent = x.desk.sent ++ record { to = node; bytes = bytes } ∷ [] }) ≡ turning x.before (if b then record x.desk { sent = x.desk.sent ++ parcel_to node e ∷ [] } else x.desk)
     at true h = ap (λ (bs : List ℕ). turning x.before (record x.desk { sent = x.desk.sent ++ record { to = node; bytes = bs } ∷ [] })) (some_is h)
     at false h = absurd (let f : Some bytes ≡ None = h in cc)
+
+-- ---- what is held is released, and actors leave
+
+module _ (t : Theatre) (d : Draft) where
+  pub released : (n : Name) (e : Draft) (xs ys : List Item) → filled t.held ≡ t.held → xs ≡ queue_of (name_key n) (without_held d.released t.held) → ys ≡ queue_of (name_key n) d.held →
+      e.work.items ≡ (d.work.items ++ xs) ++ ys → e.released ≡ d.released ++ n ∷ [] → e.held ≡ write d.held (name_key n) None →
+      turning t (desk_with t (record d { released = e.released; held = e.held; work = e.work })) ≡ on_desk (release_held n) (turning t (desk_with t d))
+  unfolding release_held
+  released n e xs ys h xs_are ys_are work names held =
+      let k = name_key n in
+      let b = without_held d.released t.held in
+      let held_is : joined e.held (without_held e.released t.held) ≡ write (joined d.held b) k None =
+          ap (λ q. joined q (without_held e.released t.held)) held
+          ∙ ap (λ r. joined (write d.held k None) (without_held r t.held)) names
+          ∙ ap (joined (write d.held k None)) (without_last d.released n t.held)
+          ∙ none_held d.held b k (filled_without d.released t.held h) in
+      let work_is : e.work.items ≡ d.work.items ++ queue_of k (joined d.held b) =
+          work ∙ append_assoc d.work.items xs ys
+          ∙ ap (λ zs. d.work.items ++ zs) (ap (λ zs. zs ++ ys) xs_are ∙ ap (λ zs. queue_of k b ++ zs) ys_are ∙ sym (queue_of-joined d.held b k)) in
+      λ i. turning t (record { theatre = record (theatre_with t d) { held = held_is i }; work = work_is i; sent = d.sent; told = d.told })
+
+  pub left_here : (r : Resident) (n m : Name) (residents : Entries Resident) (left : List Name) (ready : List Message) → n ≡ r.name → m ≡ r.name →
+      ready ≡ filter (is_not_for r.name) d.ready → left ≡ d.left ++ n ∷ [] → residents ≡ write d.residents (name_key m) (Some None) →
+      turning t (desk_with t (record d { residents = residents; left = left; ready = ready })) ≡ on_desk (on_theatre (without_resident r)) (turning t (desk_with t d))
+  unfolding without_resident
+  left_here r n m residents left ready n_is m_is ready_is left_is is =
+      let ms = without_taken d.taken t.ready in
+      let residents_are : overlaid residents t.residents ≡ write (overlaid d.residents t.residents) (name_key r.name) None =
+          changed d.residents t.residents (name_key m) None residents is ∙ ap (λ k. write (overlaid d.residents t.residents) (name_key k) None) m_is in
+      let calls_are : without_calls left ms ++ ready ≡ filter (is_not_for r.name) (without_calls d.left ms ++ d.ready) =
+          ap (λ xs. without_calls left ms ++ xs) ready_is
+          ∙ ap (λ ns. without_calls ns ms ++ filter (is_not_for r.name) d.ready) (left_is ∙ ap (λ k. d.left ++ k ∷ []) n_is)
+          ∙ leaves d.left r.name ms d.ready in
+      λ i. turning t (record (desk_with t d) { theatre = record (theatre_with t d) { residents = residents_are i; ready = calls_are i } })

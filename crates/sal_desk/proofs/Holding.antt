@@ -84,3 +84,26 @@ held_still (m ∷ names) n t h = at (key_eq (name_key m) (name_key n)) refl h (h
     at : (b : Bool) → key_eq (name_key m) (name_key n) ≡ b → (b || is_among n names) ≡ false → (is_among n names ≡ false → queue_of (name_key n) (without_held names (write t (name_key m) None)) ≡ queue_of (name_key n) (write t (name_key m) None)) → queue_of (name_key n) (without_held names (write t (name_key m) None)) ≡ queue_of (name_key n) t
     at true is g rest = absurd (true≢false g)
     at false is g rest = rest g ∙ queue_of-write t (name_key m) None (name_key n) ∙ differ (key_eq (name_key n) (name_key m)) refl is
+
+-- what is held for one of them
+pub held_none : (names : List Name) (n : Name) (t : Queues Item) → is_among n names ≡ true → queue_of (name_key n) (without_held names t) ≡ []
+unfolding without_held
+held_none [] n t h = absurd (true≢false (sym h))
+held_none (m ∷ names) n t h = at (key_eq (name_key m) (name_key n)) refl h (held_none names n (write t (name_key m) None))
+  where
+    none : (ns : List Name) (u : Queues Item) → queue_of (name_key n) u ≡ [] → queue_of (name_key n) (without_held ns u) ≡ []
+    none [] u e = e
+    none (x ∷ ns) u e = none ns (write u (name_key x) None) (queue_of-write u (name_key x) None (name_key n) ∙ by (key_eq (name_key n) (name_key x)))
+      where
+        by : (b : Bool) → cond b [] (queue_of (name_key n) u) ≡ []
+        by true = refl
+        by false = e
+
+    first : key_eq (name_key m) (name_key n) ≡ true → queue_of (name_key n) (write t (name_key m) None) ≡ []
+    first is =
+        queue_of-write t (name_key m) None (name_key n)
+        ∙ ap (λ b. cond b [] (queue_of (name_key n) t)) (ap (key_eq (name_key n)) (same_words (name_key m) (name_key n) is) ∙ words_refl (name_key n))
+
+    at : (b : Bool) → key_eq (name_key m) (name_key n) ≡ b → (b || is_among n names) ≡ true → (is_among n names ≡ true → queue_of (name_key n) (without_held names (write t (name_key m) None)) ≡ []) → queue_of (name_key n) (without_held names (write t (name_key m) None)) ≡ []
+    at true is g rest = none names (write t (name_key m) None) (first is)
+    at false is g rest = rest g

@@ -2,3 +2,4 @@ pub mod Desks
 pub mod Holding
 pub mod Keeping
 pub mod Overlays
+pub mod Ready

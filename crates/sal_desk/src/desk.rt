@@ -8,6 +8,7 @@ ghost use Rattle.sal_value.specs.Table.{key_eq};
 ghost use Rattle.sal_value.specs.declared.name.Name.TheVariants.{Uan as Universal};
 ghost use Rattle.sal_mail.specs.Message.{is_for, is_not_for};
 ghost use Rattle.sal_source.specs.Keys.{name_key, made_key};
+ghost use Rattle.sal_queues.specs.Queues.{queue_of, filled};
 ghost use Rattle.sal_move.specs.Places as places;
 ghost use Rattle.sal_book.specs.Book.{released_by_entry};
 ghost use Rattle.sal_routing.specs.State as spec;
@@ -17,7 +18,7 @@ ghost use Rattle.sal_routing.specs.Arrivals as arrivals;
 ghost use Rattle.sal_routing.specs.Handling as handling;
 ghost use Rattle.sal_routing.specs.Turns as turns;
 ghost use Rattle.sal_desk.specs.code.Desks.{turning, on_desk, on_theatre};
-ghost use Rattle.sal_desk.specs.code.Drafts.{desk_with, without_taken, is_among};
+ghost use Rattle.sal_desk.specs.code.Drafts.{desk_with, without_taken, without_held, is_among};
 
 use crate::draft::Draft;
 use crate::parcels::Parcels;
@@ -33,6 +34,7 @@ use sal_source::Step;
 use sal_spelled::spell;
 use sal_value::{CloneIn, List, Name, NoMemory, Text, Uan, Value};
 use std::alloc::Global;
+use std::cmp::Ord;
 use std::collections::VecDeque;
 use std::marker::Model;
 use std::mem;
@@ -63,7 +65,7 @@ impl<'t> Model for Desk<'t> {
 fn is_same_name(one: &Name, other: &Name) -> bool
     ensures { result ≡ key_eq (name_key one.now) (name_key other.now) }
 {
-    one == other
+    one.cmp(other).is_eq()
 }
 
 /// Whether the name is one of these.
@@ -117,17 +119,43 @@ fn calls_among(
     Ok(calls)
 }
 
-/// Those that are for others.
-fn others(alloc: Global, messages: List<Message>, name: &Name) -> Result<List<Message>, NoMemory>
-    ensures { IfOk result (λ others. others ≡ filter (is_not_for name.now) messages) }
+fn is_not_for(message: &Message, name: &Name) -> bool
+    ensures { result ≡ is_not_for name.now message.now }
 {
-    let mut others = List::new(alloc);
-    for message in messages.into_vec() {
-        if !is_for(&message, name) {
-            others.push(message)?;
-        }
+    !is_for(message, name)
+}
+
+/// Those that are for others.
+fn others(messages: List<Message>, name: &Name) -> List<Message>
+    ensures { result ≡ filter (is_not_for name.now) messages }
+{
+    let mut messages = messages.into_vec();
+    messages.retain(|message| is_not_for(message, name));
+    List::from_vec(messages)
+}
+
+fn add_work(work: &mut VecDeque<Item>, items: List<Item>) -> Result<(), NoMemory>
+    ensures { OnOk result (work.new.items ≡ work.old.items ++ items) }
+{
+    for item in items.into_vec() {
+        work.push_back(item)?;
     }
-    Ok(others)
+    Ok(())
+}
+
+/// What is held for the name, unless it was released.
+fn held_still(
+    alloc: Global,
+    held: &Queues<Item>,
+    released: &[Name],
+    name: &Name,
+) -> Result<List<Item>, NoMemory>
+    ensures { IfOk result (λ items. items ≡ queue_of (name_key name.now) (without_held released.now (filled held.now))) }
+{
+    if is_among(released, name) {
+        return Ok(List::new(alloc));
+    }
+    held.copies(alloc, name)
 }
 
 /// The theatre of a known place.
@@ -391,19 +419,15 @@ impl<'t> Desk<'t> {
     }
 
     /// What is held for the name joins the work.
-    #[tactic(auto, unfolding(sal_routing::specs::Routing::release_held))]
     pub fn release_held(&mut self, alloc: Global, name: &Name) -> Result<(), NoMemory>
         ensures { OnOk result (self.new ≡ on_desk (routing.release_held name.now) self.old) }
     {
-        if !is_among(self.draft.released.as_slice(), name) {
-            for item in self.state.held.copies(alloc, name)?.into_vec() {
-                self.draft.work.push_back(item)?;
-            }
-            self.draft.released.push(name.clone_in(alloc)?)?;
-        }
-        for item in self.draft.held.copies(alloc, name)?.into_vec() {
-            self.draft.work.push_back(item)?;
-        }
+        let state = self.state;
+        let before = held_still(alloc, &state.held, self.draft.released.as_slice(), name)?;
+        let more = self.draft.held.copies(alloc, name)?;
+        add_work(&mut self.draft.work, before)?;
+        add_work(&mut self.draft.work, more)?;
+        self.draft.released.push(name.clone_in(alloc)?)?;
         self.draft.held.clear(name);
         Ok(())
     }
@@ -441,7 +465,7 @@ impl<'t> Desk<'t> {
     {
         let name = &actor.resident().name;
         let ready = mem::replace(&mut self.draft.ready, List::new(alloc));
-        self.draft.ready = others(alloc, ready, name)?;
+        self.draft.ready = others(ready, name);
         self.draft.left.push(name.clone_in(alloc)?)?;
         self.draft.residents.remove(name.clone_in(alloc)?)
     }
