@@ -1,6 +1,6 @@
 use Rattle.std.proofs.Common.{sym, ◌∙◌}
 use Rattle.std.specs.Prelude.{IfOk}
-use Rattle.std.proofs.lemmas.Result.{if_ok_weaker}
+use Rattle.std.proofs.lemmas.Result.{IfOk-weaker}
 use Rattle.sal_source.specs.Keys.{name_key}
 use Rattle.sal_queues.specs.Queues.{filled}
 use Rattle.sal_queues.proofs.Laws.{queue_of-filled}
@@ -13,6 +13,6 @@ returns-then-is_among c =
 
 pub returns : goal.returns
 returns c =
-    if_ok_weaker c.copies.result (λ xs e.
+    IfOk-weaker c.copies.result _ _ (λ xs e.
     e ∙ sym (queue_of-filled c.args.held.now (name_key c.args.name.now))
     ∙ sym (held_still c.args.released.now c.args.name.now (filled c.args.held.now) (sym c.is_among.ensures ∙ c.if-is_among.false))) c.copies.ensures
