@@ -1,2 +1,3 @@
 mod Keys
 pub mod Laws
+pub mod Overlays

@@ -5,10 +5,10 @@ use Rattle.std.specs.FinMap as fm
 use Rattle.sal_value.specs.declared.name.Name.{Name}
 use Rattle.sal_value.specs.Order.{key}
 use Rattle.sal_value.specs.Table.{TableKey, key_cmp, key_eq, table_by, write}
-use Rattle.sal_value.proofs.Tables.{same_words, words_refl, get-write, written_same}
-use Rattle.sal_queues.specs.Queues.{Queues, queue_of, filled, joined_entries, joined, with_room, HasRoomAt, HasRoomFor}
+use Rattle.sal_value.proofs.Tables.{same_words, words_refl, same_table, get-write, written_same}
+use Rattle.sal_queues.specs.Queues.{Queues, queue_of, filled, joined_entries, joined, with_room, if_filled, HasRoomAt, HasRoomFor, KeepsRoom}
 use Rattle.sal_queues.proofs.Keys.{at_key, get_by}
-use Rattle.sal_queues.proofs.Laws.{same_filled, queue_of-write, extended, none_after, get_after}
+use Rattle.sal_queues.proofs.Laws.{filled_is, filled-write, same_filled, queue_of-write, extended, none_after, get_after}
 
 no_length : {A : Type 0} (es : List A) → length es ≡ 0 → es ≡ []
 no_length [] e = refl
@@ -106,3 +106,30 @@ module _ {X : Type 0} where
   pub joined_none : (more t : Queues X) → more ≡ fm.empty → t ≡ joined more t
   unfolding joined
   joined_none more t is = sym (ap (λ es. joined_entries es t) (ap fm.entries is ∙ entries-empty))
+
+  -- ---- a list is emptied
+
+  pub emptied : (t : Queues X) (k : TableKey) → filled (write t k (Some [])) ≡ write (filled t) k None
+  emptied t k = filled-write t k (Some [])
+
+  -- where there is none, nothing is held
+  pub emptied_none : (t : Queues X) (k : TableKey) → None ≡ fm.get t k → filled t ≡ write (filled t) k None
+  emptied_none t k none = same_table _ _ (λ q. at q (key_eq q k) refl ∙ sym (get-write (filled t) k None q))
+    where
+      at : (q : TableKey) (b : Bool) → key_eq q k ≡ b → fm.get (filled t) q ≡ cond b None (fm.get (filled t) q)
+      at q true is = filled_is t q ∙ ap (λ w. if_filled (queue_of w t)) (same_words q k is) ∙ ap (λ o. if_filled (unwrap_or o [])) (sym none)
+      at q false is = refl
+
+  pub keeps_emptied : (t : Queues X) (k : TableKey) → KeepsRoom t (write t k (Some []))
+  unfolding KeepsRoom HasRoomFor
+  keeps_emptied t k more had q = subst (HasRoomAt (fm.get more q)) (sym (get-write t k (Some []) q)) (at (key_eq q k) (fm.get more q) (fm.get t q) (had q))
+    where
+      at : (b : Bool) (o p : Option (List X)) → HasRoomAt o p → HasRoomAt o (cond b (Some []) p)
+      at false o p h = h
+      at true None p h = tt
+      at true (Some xs) None h = absurd h
+      at true (Some xs) (Some ys) h = omega (arith, h)
+
+  pub keeps_itself : (t : Queues X) → KeepsRoom t t
+  unfolding KeepsRoom
+  keeps_itself t more had = had

@@ -62,3 +62,7 @@ HasRoomFor t more = (k : TableKey) → HasRoomAt (fm.get more k) (fm.get t k)
 -- the table with a list at the key, an empty one where there was none
 unfoldable pub with_room : {X : Type 0} → TableKey → Queues X → Queues X
 with_room k t = write t k (Some (queue_of k t))
+
+-- all that can be joined to the former without memory can be joined to the latter
+unfoldable pub KeepsRoom : {X : Type 0} → Queues X → Queues X → Type 0
+KeepsRoom {X} old new = (more : Queues X) → HasRoomFor old more → HasRoomFor new more

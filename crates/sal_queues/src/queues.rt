@@ -1,13 +1,13 @@
 //! Queues by name.
 
-ghost use Rattle.std.specs.Prelude.{◌≡◌, ◌+◌, ◌^◌, ◌<◌, ◌∷◌, [], ◌++◌, ◌↔◌, length, Some, None, IsTrue, IfOk, IfSome, IfNone, OnOk, OnErr};
+ghost use Rattle.std.specs.Prelude.{◌≡◌, ◌+◌, ◌^◌, ◌<◌, ◌∷◌, [], ◌++◌, ◌↔◌, map, length, Some, None, IsTrue, IfOk, IfSome, IfNone, OnOk, OnErr};
 ghost use Rattle.std.specs.Option.{option_copied};
 ghost use Rattle.std.specs.List.{list_any};
 ghost use Rattle.std.specs.BTreeMap.{IsOrdered};
 ghost use Rattle.std.specs.FinMap as fm;
 ghost use Rattle.sal_value.specs.Order.{key};
 ghost use Rattle.sal_value.specs.Table.{key_cmp, table_by, write};
-ghost use Rattle.sal_queues.specs.Queues.{queue_of, is_filled, filled, joined, with_room, HasRoomAt, HasRoomFor};
+ghost use Rattle.sal_queues.specs.Queues.{queue_of, is_filled, filled, joined, with_room, HasRoomAt, HasRoomFor, KeepsRoom};
 
 use sal_value::{CloneIn, List, Name, NoMemory};
 use std::alloc::Global;
@@ -109,7 +109,8 @@ impl<T: Drop> Queues<T> {
 
     /// The names with their queues in the order of names. An empty list is only room.
     pub fn iter(&self) -> Iter<'_, Name, LinkedList<T>>
-        ensures { table_by key result ≡ self.now }
+        ensures table { table_by key result ≡ self.now }
+        ensures in_order { map (λ e. (key e.0, e.1)) result ≡ fm.entries self.now }
     {
         self.lists.iter()
     }
@@ -141,6 +142,17 @@ impl<T: Drop> Queues<T> {
         ensures queues { filled self.new ≡ write (filled self.old) (key name.now) None }
     {
         let _ = self.lists.remove(name);
+    }
+
+    /// Lets go what is held for the name, and keeps the room for more.
+    pub fn empty(&mut self, name: &Name)
+        ensures queues { filled self.new ≡ write (filled self.old) (key name.now) None }
+        ensures room { KeepsRoom self.old self.new }
+    {
+        let Some(list) = self.lists.get_mut(name) else {
+            return;
+        };
+        list.clear();
     }
 
     fn make_room_at(&mut self, alloc: Global, name: &Name, count: usize) -> Result<(), NoMemory>

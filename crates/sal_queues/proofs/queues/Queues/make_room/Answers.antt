@@ -30,4 +30,4 @@ returns-clause-room g c =
     let none : c.loop-name.name-iterator ≡ [] = rest_all deref_pair c.loop-name.name-iterator c.next.new.self c.next.result c.in-None.is c.next.ensures.steps in
     room_for all c.loop-name.self c.args.more.now
     (subst (λ (es : List (Name × List X)). IsRoomButFor es all c.loop-name.self) none c.loop-name.invariant.1)
-    (ap (table_by key) c.into_iter-name-iterator.ensures.into_iter_gives ∙ c.iter-name-items.ensures)
+    (ap (table_by key) c.into_iter-name-iterator.ensures.into_iter_gives ∙ c.iter-name-items.ensures.table)
