@@ -1,2 +1,10 @@
+pub mod CutLines
 pub mod Each
+pub mod Following
+pub mod Gathering
+pub mod OneWord
 pub mod Places
+pub mod Printed
+pub mod Sentences
+pub mod Told
+pub mod Whole

@@ -144,15 +144,15 @@ fn put_results(
     ensures { OnOk result (out.new ≡ out.old ++ spec.results_text program.now (shown_document shown.now)) }
 {
     let report = shown.report;
-    put_section(alloc, "faults", shown.faults.as_slice(), program, out)?;
-    put_section(alloc, "answers", shown.answers.as_slice(), program, out)?;
+    put_section(alloc, "faults", shown.faults, program, out)?;
+    put_section(alloc, "answers", shown.answers, program, out)?;
     put_section(alloc, "actors", report.actors.as_slice(), program, out)?;
     put_tail(alloc, report.pending, shown.packets, shown.end, out)
 }
 
 /// Adds the document of what is shown.
 #[tactic(auto, unfolding(crate::specs::Documents::document_text))]
-fn put_document(
+pub fn put_document(
     alloc: Global,
     shown: &Shown<'_>,
     program: &Program,
@@ -161,8 +161,8 @@ fn put_document(
     ensures { OnOk result (out.new ≡ out.old ++ spec.document_text program.now (shown_document shown.now)) }
 {
     put_head(alloc, shown.hash, out)?;
-    put_section(alloc, "trace", shown.trace.as_slice(), program, out)?;
-    put_section(alloc, "output", shown.output.as_slice(), program, out)?;
+    put_section(alloc, "trace", shown.trace, program, out)?;
+    put_section(alloc, "output", shown.output, program, out)?;
     put_results(alloc, shown, program, out)
 }
 

@@ -3,6 +3,7 @@
 ghost use Rattle.std.specs.Prelude.{◌≡◌, codes, IfOk};
 ghost use Rattle.std.specs.List.{position};
 ghost use Rattle.sal_literals.specs.Reading.{number_of};
+ghost use Rattle.sal_document.specs.Refusals.{Reads};
 ghost use Rattle.sal_document.specs.code.Reading as spec;
 ghost use Rattle.sal_document.specs.code.Keeping as keeping;
 ghost use Rattle.sal_document.specs.code.Reads.{ReadsLines, IsNear};
@@ -249,13 +250,20 @@ fn replay(alloc: Global, program: &Program, place: Place<'_>) -> Result<Replay, 
     })
 }
 
-/// Reads a replay document, or names the first line that isn't of the form that is wanted there.
+/// Reads a replay document of this program.
 #[tactic(auto, unfolding(crate::specs::code::Keeping::replay_of))]
-pub fn read_replay(alloc: Global, bytes: &[u8], program: &Typed) -> Result<Replay, ReplayFault>
+pub fn read_text(alloc: Global, bytes: &[u8], program: &Program) -> Result<Replay, ReplayFault>
     ensures { ReadsLines (λ x. x) result (keeping.replay_of program.now bytes.now) }
 {
     if bytes.len() > LONGEST_DOCUMENT {
         return Err(ReplayFault::Refused { line: 1 });
     }
-    replay(alloc, program.program(), Place { line: 1, bytes })
+    replay(alloc, program, Place { line: 1, bytes })
+}
+
+/// Reads a replay document, or names the first line that isn't of the form that is wanted there.
+pub fn read_replay(alloc: Global, bytes: &[u8], program: &Typed) -> Result<Replay, ReplayFault>
+    ensures { Reads program.now bytes.now result }
+{
+    read_text(alloc, bytes, program.program())
 }

@@ -17,11 +17,11 @@ pub enum End {
 pub struct Shown<'a> {
     /// That of the program's text.
     pub hash: &'a [u8; 32],
-    pub trace: &'a List<Step>,
+    pub trace: &'a [Step],
     /// The printed texts, each with its theatre.
-    pub output: &'a List<(u8, Text)>,
-    pub faults: &'a List<Fault>,
-    pub answers: &'a List<(u64, Value)>,
+    pub output: &'a [(u8, Text)],
+    pub faults: &'a [Fault],
+    pub answers: &'a [(u64, Value)],
     pub report: &'a Report,
     pub packets: usize,
     pub end: End,

@@ -1,5 +1,6 @@
 ghost use Rattle.std.specs.Prelude.{◌≡◌, [], ◌∷◌, ◌++◌, ◌+◌, ◌≤◌, true, length, not, IfOk, OnOk, OnErr};
-ghost use Rattle.sal_carriage.specs.Link.{take_bytes};
+ghost use Rattle.std.specs.List.{list_all};
+ghost use Rattle.sal_carriage.specs.Link.{take_bytes, is_acknowledged};
 ghost use Rattle.sal_node.specs.Halves.{CanCompleteFrom, IsArrival, complete_from};
 ghost use Rattle.sal_node.specs.Links as spec;
 ghost use Rattle.sal_node.specs.code.Takes.{taking_of};
@@ -91,6 +92,13 @@ fn take_on(alloc: Global, link: &mut Link, bytes: &[u8]) -> Result<Took, NoMemor
         taken,
         changed: !same,
     })
+}
+
+/// Whether all that was offered on the link is acknowledged.
+fn is_acknowledged(link: &Link) -> bool
+    ensures { result ≡ is_acknowledged link.now }
+{
+    link.unacknowledged().len() == 0
 }
 
 #[tactic(auto, unfolding(crate::specs::Links::are_idle))]
@@ -192,8 +200,8 @@ impl Links {
         Ok(datagrams)
     }
 
-    /// What is due counts as sent.
-    fn push(&mut self, now: u64)
+    /// What is due counts as sent. Takes no memory.
+    pub fn push(&mut self, now: u64)
         ensures { self.new ≡ spec.push_all now self.old }
     {
         for at in 0..self.items.len() {
@@ -253,6 +261,13 @@ impl Links {
                 return;
             }
         }
+    }
+
+    /// Whether all that was offered is acknowledged.
+    pub fn are_acknowledged(&self) -> bool
+        ensures { result ≡ list_all is_acknowledged self.now }
+    {
+        self.items.iter().all(is_acknowledged)
     }
 
     /// Whether all that was offered is acknowledged and no acknowledgement is due.

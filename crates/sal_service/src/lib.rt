@@ -11,3 +11,6 @@ mod turned;
 
 pub use node::NameNode;
 pub use turned::{Decision, Turned};
+
+#[cfg(test)]
+mod tests;

@@ -81,6 +81,22 @@ impl NameNode {
         turn_without_decision(took)
     }
 
+    /// What is to be sent now, in the order of the nodes. None of it counts as sent yet.
+    #[tactic(auto, unfolding(crate::specs::Service::service_due))]
+    pub fn due_datagrams(&self, alloc: Global) -> Result<List<Datagram>, NoMemory>
+        ensures { IfOk result (λ ds. ds ≡ spec.service_due self.now) }
+    {
+        self.links.due_datagrams(alloc, self.clock)
+    }
+
+    /// What is to be sent now counts as sent. Takes no memory.
+    #[tactic(auto, unfolding(crate::specs::Service::service_push))]
+    pub fn mark_sent(&mut self)
+        ensures { self.new ≡ spec.service_push self.old }
+    {
+        self.links.push(self.clock);
+    }
+
     /// What is to be sent now, in the order of the nodes. It counts as sent.
     #[tactic(auto, unfolding(crate::specs::Service::service_due, crate::specs::Service::service_push))]
     pub fn push(&mut self, alloc: Global) -> Result<List<Datagram>, NoMemory>
