@@ -1,0 +1,9 @@
+pub mod Calls
+pub mod Committing
+pub mod Desks
+pub mod Holding
+pub mod Keeping
+pub mod Moments
+pub mod Overlays
+pub mod Readings
+pub mod Ready
