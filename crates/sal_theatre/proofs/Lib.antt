@@ -1,0 +1,13 @@
+pub mod Asking
+pub mod Creations
+pub mod Datagrams
+pub mod Few
+pub mod Finishing
+pub mod Handled
+pub mod Idle
+pub mod Keeping
+pub mod Leaving
+pub mod Locators
+pub mod Looping
+pub mod Moving
+pub mod Received

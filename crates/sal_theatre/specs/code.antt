@@ -1,0 +1,3 @@
+pub mod Asked
+pub mod Programs
+pub mod Turning
