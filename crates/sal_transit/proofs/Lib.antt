@@ -1,0 +1,12 @@
+pub mod Sums
+pub mod Changing
+pub mod Carrying
+pub mod Net
+pub mod Offering
+pub mod Delivering
+pub mod Pushing
+pub mod Placing
+pub mod Worlds
+pub mod Turns
+pub mod Beginning
+pub mod Desks

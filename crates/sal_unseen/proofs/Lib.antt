@@ -1,0 +1,11 @@
+pub mod Sums
+pub mod Sending
+pub mod Moving
+pub mod Replies
+pub mod Legal
+pub mod Unseen
+pub mod Parts
+pub mod Handlers
+pub mod Steps
+pub mod Calls
+pub mod Turns

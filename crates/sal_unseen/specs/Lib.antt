@@ -1,0 +1,9 @@
+pub mod Desks
+pub mod Legal
+pub mod Moving
+pub mod Unseen
+pub mod Parts
+pub mod Handlers
+pub mod Steps
+pub mod Calls
+pub mod Turns
