@@ -15,7 +15,7 @@ use Rattle.salsa.proofs.OnFiles.{on_file}
 
 -- ---- the first bytes of a file tell whether it is too long
 
-whole_is : (whole : List ℕ) → length (take 262145 whole) ≤ 262144 → take 262145 whole ≡ whole
+pub whole_is : (whole : List ℕ) → length (take 262145 whole) ≤ 262144 → take 262145 whole ≡ whole
 whole_is whole short = case (nat_lt 262144 (length whole)) refl
   where
     case : (b : Bool) → nat_lt 262144 (length whole) ≡ b → take 262145 whole ≡ whole

@@ -1,8 +1,11 @@
 mod InMemory
 mod OnFiles
+mod FirstBytes
 mod Checking
 mod Judging
 mod Causes
 mod Telling
 mod Running
 mod Sizes
+mod InputFiles
+mod Auditing

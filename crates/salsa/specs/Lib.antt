@@ -1,3 +1,5 @@
+pub mod Audit
+pub mod Inputs
 pub mod Memory
 pub mod Outside
 pub mod Programs

@@ -1,2 +1,4 @@
+pub mod Audit
+pub mod Inputs
 pub mod Faults
 pub mod Judging

@@ -1,13 +1,24 @@
-//! The line that tells a refusal.
+//! The lines that tell refusals.
 ghost use Rattle.std.specs.Prelude.{◌≡◌, ◌++◌, IfOk, OnOk};
 ghost use Rattle.salsa.specs.Programs as spec;
 ghost use Rattle.salsa.specs.Programs.{at_byte, bracket_text, refusal_text, refusal_line};
+ghost use Rattle.salsa.specs.Inputs as inputs;
 
 use crate::refusal::Refusal;
 use sal_grammar::ParseRule;
 use sal_text::LexRule;
 use sal_value::{NoMemory, Text};
 use std::alloc::Global;
+
+/// The words, a number and a newline.
+pub fn number_line(alloc: Global, words: &str, number: u64) -> Result<Text, NoMemory>
+    ensures { IfOk result (λ line. line ≡ inputs.number_line words.now number) }
+{
+    let mut line = Text::from_text(alloc, words)?;
+    line.push_str(number.to_string(alloc)?.as_str())?;
+    line.push_str("\n")?;
+    Ok(line)
+}
 
 #[tactic(auto, unfolding(crate::specs::Programs::lexical_name))]
 fn lexical_name(rule: LexRule) -> &'static str

@@ -1,6 +1,9 @@
-//! Checks and runs actor programs: `salsa check P`, `salsa run P words..`.
+//! Checks, runs and audits actor programs: `salsa check P`, `salsa run P words..`, `salsa audit P PLAN T`.
 #![tactic(auto)]
 
+mod audit;
+mod hash;
+mod inputs;
 mod line;
 mod memory;
 mod outside;
@@ -43,7 +46,11 @@ fn main(rt: HostRuntime) -> ExitCode {
 }
 
 #[cfg(test)]
+mod audits;
+#[cfg(test)]
 mod handlers;
+#[cfg(test)]
+mod schedules;
 #[cfg(test)]
 mod tests;
 #[cfg(test)]

@@ -1,8 +1,10 @@
 //! The top call.
 ghost use Rattle.std.specs.Prelude.{◌≡◌, ◌≢◌, None, true};
 ghost use Rattle.salsa.specs.Outside.{outside};
+ghost use Rattle.salsa.specs.Audit.{audit_call, AuditCause};
 ghost use Rattle.salsa.specs.Top.{check_name, run_call, OnNamed, Puts, PutsBoth, IsTold, CheckCause, RunCause, Usage, are_legal};
 
+use crate::audit::audit_named;
 use crate::outside::{Failed, Files, OutsideFault, Sink};
 use crate::read::read_program;
 use crate::refusal::{ReadFault, Refusal};
@@ -127,7 +129,7 @@ pub fn salsa<F: Files, O: Sink, E: Sink>(
     out: &mut O,
     err: &mut E,
 ) -> u8
-    ensures usage { check_name words.now ≡ None → run_call words.now ≡ None →
+    ensures usage { check_name words.now ≡ None → run_call words.now ≡ None → audit_call words.now ≡ None →
         Usage result (outside (F.state files.old) (O.state out.old) (E.state err.old))
         (outside (F.state files.new) (O.state out.new) (E.state err.new)) }
     ensures check { OnNamed (check_name words.now) (λ name.
@@ -136,14 +138,18 @@ pub fn salsa<F: Files, O: Sink, E: Sink>(
     ensures run { OnNamed (run_call words.now) (λ named.
         RunCause result named.0 named.1 (outside (F.state files.old) (O.state out.old) (E.state err.old))
         (outside (F.state files.new) (O.state out.new) (E.state err.new))) }
+    ensures audit { OnNamed (audit_call words.now) (λ names.
+        AuditCause result names (outside (F.state files.old) (O.state out.old) (E.state err.old))
+        (outside (F.state files.new) (O.state out.new) (E.state err.new))) }
     ensures files { (F.state files.new).held ≡ (F.state files.old).held }
 {
     let [command, name, given @ ..] = words else {
         return put(err, b"usage\n", 1);
     };
-    match command.as_str() {
-        "run" => run(alloc, name, given, files, out, err),
-        "check" if given.is_empty() => check(alloc, name, files, out, err),
+    match (command.as_str(), given) {
+        ("run", _) => run(alloc, name, given, files, out, err),
+        ("check", []) => check(alloc, name, files, out, err),
+        ("audit", [plan, document]) => { audit_named(alloc, name, plan, document, files, out, err) }
         _ => put(err, b"usage\n", 1),
     }
 }
