@@ -1,0 +1,9 @@
+pub mod Beginning
+pub mod Delivering
+pub mod Looping
+pub mod Making
+pub mod Nodes
+pub mod Numbers
+pub mod Passing
+pub mod Rounds
+pub mod Undelivered
