@@ -7,23 +7,27 @@ use Rattle.salsa.specs.Top.{IsJudgement, IsRunStatus, Puts, PutsBoth, RunCause, 
 use Rattle.salsa.proofs.OnFiles.{on_file}
 
 -- a status of another kind
-not_run : (n : ℕ) → (n ≡ 1) ⊎ (n ≡ 2) ⊎ (n ≡ 5) ⊎ (n ≡ 7) → IsRunStatus n → ⊥
+not_run : (n : ℕ) → (n ≡ 1) ⊎ (n ≡ 2) ⊎ (n ≡ 5) ⊎ (n ≡ 7) ⊎ (n ≡ 10) → IsRunStatus n → ⊥
 not_run n (inl a) (inl e) = absurd (omega arith)
 not_run n (inr (inl a)) (inl e) = absurd (omega arith)
 not_run n (inr (inr (inl a))) (inl e) = absurd (omega arith)
-not_run n (inr (inr (inr a))) (inl e) = absurd (omega arith)
+not_run n (inr (inr (inr (inl a)))) (inl e) = absurd (omega arith)
+not_run n (inr (inr (inr (inr a)))) (inl e) = absurd (omega arith)
 not_run n (inl a) (inr e) = absurd (omega arith)
 not_run n (inr (inl a)) (inr e) = absurd (omega arith)
 not_run n (inr (inr (inl a))) (inr e) = absurd (omega arith)
-not_run n (inr (inr (inr a))) (inr e) = absurd (omega arith)
+not_run n (inr (inr (inr (inl a)))) (inr e) = absurd (omega arith)
+not_run n (inr (inr (inr (inr a)))) (inr e) = absurd (omega arith)
 
-no_line : (n : ℕ) → IsRunStatus n → (n ≡ 1) ⊎ (n ≡ 5) ⊎ (n ≡ 7) → ⊥
+no_line : (n : ℕ) → IsRunStatus n → (n ≡ 1) ⊎ (n ≡ 5) ⊎ (n ≡ 7) ⊎ (n ≡ 10) → ⊥
 no_line n (inl e) (inl a) = absurd (omega arith)
 no_line n (inl e) (inr (inl a)) = absurd (omega arith)
-no_line n (inl e) (inr (inr a)) = absurd (omega arith)
+no_line n (inl e) (inr (inr (inl a))) = absurd (omega arith)
+no_line n (inl e) (inr (inr (inr a))) = absurd (omega arith)
 no_line n (inr e) (inl a) = absurd (omega arith)
 no_line n (inr e) (inr (inl a)) = absurd (omega arith)
-no_line n (inr e) (inr (inr a)) = absurd (omega arith)
+no_line n (inr e) (inr (inr (inl a))) = absurd (omega arith)
+no_line n (inr e) (inr (inr (inr a))) = absurd (omega arith)
 
 apart : (n m : ℕ) → IsRunStatus n → (m ≡ 2) ⊎ (m ≡ 5) → n ≡ m → ⊥
 apart n m (inl e) (inl a) same = absurd (omega arith)
@@ -31,21 +35,26 @@ apart n m (inl e) (inr a) same = absurd (omega arith)
 apart n m (inr e) (inl a) same = absurd (omega arith)
 apart n m (inr e) (inr a) same = absurd (omega arith)
 
-no_other : (n : ℕ) (line : List ℕ) → n ≡ 2 → (n ≡ 1) ⊎ (n ≡ 5) ⊎ (n ≡ 7) → line ≡ status_line 2
+no_other : (n : ℕ) (line : List ℕ) → n ≡ 2 → (n ≡ 1) ⊎ (n ≡ 5) ⊎ (n ≡ 7) ⊎ (n ≡ 10) → line ≡ status_line 2
 no_other n line e (inl a) = absurd (omega arith)
 no_other n line e (inr (inl a)) = absurd (omega arith)
-no_other n line e (inr (inr a)) = absurd (omega arith)
+no_other n line e (inr (inr (inl a))) = absurd (omega arith)
+no_other n line e (inr (inr (inr a))) = absurd (omega arith)
 
 -- a status that says nothing of legal words
-not_legal : (n : ℕ) → (n ≡ 1) ⊎ (n ≡ 7) → IsRunStatus n ⊎ (n ≡ 2) ⊎ (n ≡ 5) → ⊥
+not_legal : (n : ℕ) → (n ≡ 1) ⊎ (n ≡ 7) ⊎ (n ≡ 10) → IsRunStatus n ⊎ (n ≡ 2) ⊎ (n ≡ 5) → ⊥
 not_legal n (inl a) (inl (inl e)) = absurd (omega arith)
 not_legal n (inl a) (inl (inr e)) = absurd (omega arith)
 not_legal n (inl a) (inr (inl e)) = absurd (omega arith)
 not_legal n (inl a) (inr (inr e)) = absurd (omega arith)
-not_legal n (inr a) (inl (inl e)) = absurd (omega arith)
-not_legal n (inr a) (inl (inr e)) = absurd (omega arith)
-not_legal n (inr a) (inr (inl e)) = absurd (omega arith)
-not_legal n (inr a) (inr (inr e)) = absurd (omega arith)
+not_legal n (inr (inl a)) (inl (inl e)) = absurd (omega arith)
+not_legal n (inr (inl a)) (inl (inr e)) = absurd (omega arith)
+not_legal n (inr (inl a)) (inr (inl e)) = absurd (omega arith)
+not_legal n (inr (inl a)) (inr (inr e)) = absurd (omega arith)
+not_legal n (inr (inr a)) (inl (inl e)) = absurd (omega arith)
+not_legal n (inr (inr a)) (inl (inr e)) = absurd (omega arith)
+not_legal n (inr (inr a)) (inr (inl e)) = absurd (omega arith)
+not_legal n (inr (inr a)) (inr (inr e)) = absurd (omega arith)
 
 module _ (status : ℕ) (name : List ℕ) (words : List (List ℕ)) (before after : Outside) where
   pub usage_cause : are_legal words ≡ false → Puts 1 (status_line 1) status before.err after.err → after.out ≡ before.out → RunCause status name words before after
@@ -83,16 +92,32 @@ module _ (status : ℕ) (name : List ℕ) (words : List (List ℕ)) (before afte
   pub memory_cause : Puts 7 (status_line 7) status before.err after.err → after.out ≡ before.out → RunCause status name words before after
   memory_cause puts same = record {
     wanted = 7;
-    known = inr (inr (inr (inr refl)));
+    known = inr (inr (inr (inr (inl refl))));
     output = [];
     errors = status_line 7;
-    ran = λ r. absurd (not_run 7 (inr (inr (inr refl))) r);
+    ran = λ r. absurd (not_run 7 (inr (inr (inr (inl refl)))) r);
     refused = λ w. absurd (omega arith);
     file_fault = λ w. absurd (omega arith);
     usage = λ w. absurd (omega arith);
-    legal = λ l. absurd (not_legal 7 (inr refl) l);
+    legal = λ l. absurd (not_legal 7 (inr (inl refl)) l);
     line = λ _. refl;
-    put = λ r. absurd (not_run 7 (inr (inr (inr refl))) r);
+    put = λ r. absurd (not_run 7 (inr (inr (inr (inl refl)))) r);
+    told = λ _. (puts, same);
+  }
+
+  pub differs_cause : Puts 10 (status_line 10) status before.err after.err → after.out ≡ before.out → RunCause status name words before after
+  differs_cause puts same = record {
+    wanted = 10;
+    known = inr (inr (inr (inr (inr refl))));
+    output = [];
+    errors = status_line 10;
+    ran = λ r. absurd (not_run 10 (inr (inr (inr (inr refl)))) r);
+    refused = λ w. absurd (omega arith);
+    file_fault = λ w. absurd (omega arith);
+    usage = λ w. absurd (omega arith);
+    legal = λ l. absurd (not_legal 10 (inr (inr refl)) l);
+    line = λ _. refl;
+    put = λ r. absurd (not_run 10 (inr (inr (inr (inr refl)))) r);
     told = λ _. (puts, same);
   }
 

@@ -1,16 +1,16 @@
 -- What judging the first bytes of a file says of the file.
-use Rattle.std.proofs.Common.{◌≡◌, ℕ, List, take, Option, inl, inr, subst, ◌∙◌}
+use Rattle.std.proofs.Common.{◌≡◌, ℕ, List, take, Option, subst, ◌∙◌}
 use Rattle.salsa.specs.declared.run.Judgement.{Judgement}
-use Rattle.salsa.specs.declared.run.Judgement.TheVariants.{Refused, Ran}
+use Rattle.salsa.specs.declared.run.Judgement.TheVariants.{Refused, Ran, Differs}
 use Rattle.salsa.specs.Outside.{Held, OnFile}
 use Rattle.salsa.specs.Top.{IsJudgement}
 use Rattle.salsa.proofs.OnFiles.{on_file}
 use Rattle.salsa.proofs.Checking.{read_whole, refused_whole}
 
 pub judged_whole : (whole : List ℕ) (words : List (List ℕ)) (j : Judgement) → IsJudgement (take 262145 whole) words j → IsJudgement whole words j
-judged_whole whole words (Refused line) (inl h) = inl (h.0, (h.1.0, refused_whole whole h.0 h.1.1))
-judged_whole whole words (Refused line) (inr h) = inr (h.0, record { program = h.1.program; is_text = read_whole whole h.1.program h.1.is_text; places = h.1.places })
-judged_whole whole words (Ran told) h = (h.0, record { program = h.1.program; is_text = read_whole whole h.1.program h.1.is_text; places = h.1.places; runs = h.1.runs })
+judged_whole whole words (Refused line) h = (h.0, (h.1.0, refused_whole whole h.0 h.1.1))
+judged_whole whole words (Ran told) h = (h.0, record { program = h.1.program; is_text = read_whole whole h.1.program h.1.is_text; runs = h.1.runs })
+judged_whole whole words Differs h = tt
 
 pub judged_on_file : (held : Option Held) (name bytes text : List ℕ) (words : List (List ℕ)) (j : Judgement) → OnFile held name (λ whole. bytes ≡ take 262145 whole) → text ≡ bytes → IsJudgement text words j
     → OnFile held name (λ whole. IsJudgement whole words j)

@@ -9,3 +9,5 @@ mod Running
 mod Sizes
 mod InputFiles
 mod Auditing
+mod Plans
+mod Placed

@@ -11,7 +11,7 @@ use Rattle.sal_order.specs.Runs.{IsReached, IsRestOf}
 use Rattle.salsa.specs.Top.{IsJudgement, IsRunStatus, RunsTo, concat_texts, run_setup, status_line}
 use Rattle.salsa.specs.code.Judging.{IsProgramJudgement, IsStatusOf}
 use Rattle.salsa.specs.declared.run.Judgement.{Judgement}
-use Rattle.salsa.specs.declared.run.Judgement.TheVariants.{Refused, Ran}
+use Rattle.salsa.specs.declared.run.Judgement.TheVariants.{Refused, Ran, Differs}
 use Rattle.salsa.specs.Programs.{IsTypedTextOf}
 
 pub status_is : (rest : Rest) (status : ℕ) → IsStatusOf rest status → IsRunStatus status
@@ -41,5 +41,6 @@ run_told program words setup Lost status c output errors s reached rest h o e = 
 -- ---- what a text comes to
 
 pub judged_program : (text : List ℕ) (words : List (List ℕ)) (program : Program) (j : Judgement) → IsTypedTextOf text program → IsProgramJudgement program words j → IsJudgement text words j
-judged_program text words program (Refused line) t h = inr (h.0, record { program = program; is_text = t; places = h.1 })
-judged_program text words program (Ran told) t h = (h.1.0, record { program = program; is_text = t; places = h.0; runs = h.1.1 })
+judged_program text words program (Refused line) t h = absurd h
+judged_program text words program (Ran told) t h = (h.0, record { program = program; is_text = t; runs = h.1 })
+judged_program text words program Differs t h = tt

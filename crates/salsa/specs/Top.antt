@@ -3,6 +3,7 @@ use Rattle.std.specs.Prelude.{◌≡◌, ℕ, ◌⊎◌, Bool, true, false, List
 use Rattle.std.specs.Str.{bytes_eq}
 use Rattle.sal_ast.specs.declared.program.Program.{Program}
 use Rattle.sal_value.specs.declared.value.Value.TheVariants.{Str, Array}
+use Rattle.sal_value.specs.declared.name.Authority.{Authority}
 use Rattle.sal_value.specs.declared.constants.TheConstants.{NAME_PORT}
 use Rattle.sal_value.specs.Spelling.{is_legal}
 use Rattle.sal_mail.specs.Lines.{fault_line}
@@ -11,10 +12,9 @@ use Rattle.sal_source.specs.declared.state.Setup.{Setup}
 use Rattle.sal_source.specs.Configuration.{Configuration}
 use Rattle.sal_source.specs.Step.{IsFinal}
 use Rattle.sal_order.specs.Runs.{IsReached}
-use Rattle.sal_forms.specs.Places.{names_places}
 use Rattle.salsa.specs.declared.refusal.Refusal.{Refusal}
 use Rattle.salsa.specs.declared.run.Judgement.{Judgement}
-use Rattle.salsa.specs.declared.run.Judgement.TheVariants.{Refused, Ran}
+use Rattle.salsa.specs.declared.run.Judgement.TheVariants.{Refused, Ran, Differs}
 use Rattle.salsa.specs.Programs.{IsTypedTextOf, IsRefused, refusal_line}
 use Rattle.salsa.specs.Outside.{SinkState, Outside, OnFile, Grew, GrewByPrefix, Rose}
 
@@ -37,12 +37,13 @@ OnNamed (Some named) P = P named
 abbrev pub are_legal : List (List ℕ) → Bool
 are_legal words = is_legal (Array (map Str words))
 
+-- the naming service of a run
+abbrev pub run_authorities : List Authority
+run_authorities = record { host = codes "localhost"; port = NAME_PORT } ∷ []
+
 -- one naming service, and these words
 abbrev pub run_setup : List (List ℕ) → Setup
-run_setup words = record {
-  authorities = record { host = codes "localhost"; port = NAME_PORT } ∷ [];
-  words = map Str words;
-}
+run_setup words = record { authorities = run_authorities; words = map Str words }
 
 -- texts, one after another
 abbrev pub concat_texts : List (List ℕ) → List ℕ
@@ -55,7 +56,8 @@ status_line status =
     cond (nat_eq status 1) (codes "usage\n")
     (cond (nat_eq status 3) (codes "not at rest\n")
     (cond (nat_eq status 5) (codes "file fault\n")
-    (cond (nat_eq status 7) (codes "no memory\n") [])))
+    (cond (nat_eq status 7) (codes "no memory\n")
+    (cond (nat_eq status 10) (codes "audit refused result\n") []))))
 
 -- The program's actor meaning, in which places don't exist, has a run that ends with exactly these
 -- texts and faults: `output` is the printed texts, `errors` the lines of the faults and of the
@@ -68,35 +70,28 @@ pub record RunsTo (program : Program) (words : List (List ℕ)) (status : ℕ)
   pub errors_are : errors ≡ concat_texts (map fault_line end.faults) ++ status_line status
   pub final : status ≡ 0 → IsFinal (meaning_of program) (run_setup words) end
 
--- the program of this text runs so, and it names no places
+-- the program of this text runs so
 pub record RunsText (text : List ℕ) (words : List (List ℕ)) (status : ℕ)
     (output errors : List ℕ) : Type 0 where
   pub program : Program
   pub is_text : IsTypedTextOf text program
-  pub places : names_places program ≡ false
   pub runs : RunsTo program words status output errors
 
--- the text is that of a typed program that names places
-pub record NamesPlaces (text : List ℕ) : Type 0 where
-  pub program : Program
-  pub is_text : IsTypedTextOf text program
-  pub places : names_places program ≡ true
-
--- why a text isn't run, with the line that tells it: it is no program, or its program names places
+-- why a text isn't run, with the line that tells it: it is no program
 abbrev pub IsNotRun : List ℕ → List ℕ → Type 0
-IsNotRun text line =
-    ((refusal : Refusal) × ((line ≡ refusal_line refusal) × IsRefused text refusal))
-    ⊎ ((line ≡ codes "refused form\n") × NamesPlaces text)
+IsNotRun text line = (refusal : Refusal) × ((line ≡ refusal_line refusal) × IsRefused text refusal)
 
 -- the statuses of a run: at rest, and not at rest after all rounds
 abbrev pub IsRunStatus : ℕ → Type 0
 IsRunStatus status = (status ≡ 0) ⊎ (status ≡ 3)
 
--- what judging a text with these words gives: why it isn't run, or what its run tells
+-- What judging a text with these words gives: why it isn't run, or what its run tells. Nothing is said where the world that
+-- ran it and the meaning of its program differ.
 abbrev pub IsJudgement : List ℕ → List (List ℕ) → Judgement → Type 0
 IsJudgement text words (Refused line) = IsNotRun text line
 IsJudgement text words (Ran told) =
     IsRunStatus told.status × RunsText text words told.status told.output told.errors
+IsJudgement text words Differs = Unit {0}
 
 -- A status was reached by putting these bytes into a sink: it stands where they were taken. Only
 -- where the sink's count of faults rose it is 6 instead, and a prefix of the bytes was taken.
@@ -119,12 +114,12 @@ pub record PutsBoth (wanted : ℕ) (output errors : List ℕ) (status : ℕ)
       → GrewByPrefix out.taken out_after.taken output × GrewByPrefix err.taken err_after.taken errors
 
 -- What a run of the file with these words came to. `wanted` is its status but for a fault of a
--- sink: 0 or 3, where what the run tells went to `out` and `err`; or else 1, 2, 5 or 7, where a line
+-- sink: 0 or 3, where what the run tells went to `out` and `err`; or else 1, 2, 5, 7 or 10, where a line
 -- went to `err` and nothing to `out`. Words that make no legal value are 1, and no others.
 pub record RunCause (status : ℕ) (name : List ℕ) (words : List (List ℕ))
     (before after : Outside) : Type 0 where
   pub wanted : ℕ
-  pub known : IsRunStatus wanted ⊎ (wanted ≡ 1) ⊎ (wanted ≡ 2) ⊎ (wanted ≡ 5) ⊎ (wanted ≡ 7)
+  pub known : IsRunStatus wanted ⊎ (wanted ≡ 1) ⊎ (wanted ≡ 2) ⊎ (wanted ≡ 5) ⊎ (wanted ≡ 7) ⊎ (wanted ≡ 10)
   pub output : List ℕ
   pub errors : List ℕ
   pub ran :
@@ -134,7 +129,7 @@ pub record RunCause (status : ℕ) (name : List ℕ) (words : List (List ℕ))
   pub file_fault : wanted ≡ 5 → Rose (before.files.faults name) (after.files.faults name)
   pub usage : wanted ≡ 1 → are_legal words ≡ false
   pub legal : IsRunStatus wanted ⊎ (wanted ≡ 2) ⊎ (wanted ≡ 5) → are_legal words ≡ true
-  pub line : (wanted ≡ 1) ⊎ (wanted ≡ 5) ⊎ (wanted ≡ 7) → errors ≡ status_line wanted
+  pub line : (wanted ≡ 1) ⊎ (wanted ≡ 5) ⊎ (wanted ≡ 7) ⊎ (wanted ≡ 10) → errors ≡ status_line wanted
   pub put :
       IsRunStatus wanted
       → PutsBoth wanted output errors status before.out before.err after.out after.err

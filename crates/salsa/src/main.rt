@@ -7,6 +7,7 @@ mod inputs;
 mod line;
 mod memory;
 mod outside;
+mod places;
 mod read;
 mod real;
 mod refusal;

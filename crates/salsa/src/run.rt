@@ -2,21 +2,24 @@
 ghost use Rattle.std.specs.Prelude.{◌≡◌, ◌++◌, map, IfOk};
 ghost use Rattle.sal_value.specs.declared.value.Value.TheVariants.{Str};
 ghost use Rattle.sal_mail.specs.Lines.{fault_line};
-ghost use Rattle.salsa.specs.Top.{IsJudgement, IsRunStatus, RunsTo, are_legal, concat_texts, run_setup, status_line};
+ghost use Rattle.salsa.specs.Top.{IsJudgement, IsRunStatus, RunsTo, are_legal, concat_texts, run_authorities, run_setup, status_line};
 ghost use Rattle.salsa.specs.code.Judging.{IsProgramJudgement, IsStatusOf};
 
+use crate::hash::hash_of;
+use crate::places::run_in_world;
 use crate::read::read_program;
 use crate::refusal::ReadFault;
 use sal_forms::names_places;
 use sal_mail::Fault;
 use sal_order::{Rest, settle};
+use sal_replay::PlayFault;
 use sal_source::{Config, Setup};
 use sal_types::Typed;
 use sal_value::{Authority, List, NAME_PORT, NoMemory, Text, Value, Values};
 use std::alloc::Global;
 
 /// How many rounds a run takes at most.
-const ROUNDS: u32 = 1_000_000;
+pub const ROUNDS: u32 = 1_000_000;
 
 /// What a run tells, and its status: 0 at rest, or 3.
 #[derive(Drop)]
@@ -34,9 +37,11 @@ pub enum Judgement {
     /// It isn't run, and this line tells why.
     Refused(Text),
     Ran(Told),
+    /// The world that ran it and the meaning of its program differ.
+    Differs,
 }
 
-fn word_values(alloc: Global, words: &[Text]) -> Result<Values, NoMemory>
+pub fn word_values(alloc: Global, words: &[Text]) -> Result<Values, NoMemory>
     ensures { IfOk result (λ values. values ≡ map Str words.now) }
 {
     let mut values = List::new(alloc);
@@ -54,16 +59,24 @@ pub fn are_legal(alloc: Global, words: &[Text]) -> Result<bool, NoMemory>
     Ok(Value::Array(values).legal())
 }
 
-/// One naming service, and these words.
-fn run_setup(alloc: Global, words: &[Text]) -> Result<Setup, NoMemory>
-    ensures { IfOk result (λ setup. setup ≡ run_setup words.now) }
+/// The naming service of a run.
+pub fn run_authorities(alloc: Global) -> Result<List<Authority>, NoMemory>
+    ensures { IfOk result (λ authorities. authorities ≡ run_authorities) }
 {
-    let words = word_values(alloc, words)?;
     let mut authorities = List::new(alloc);
     authorities.push(Authority {
         host: Text::from_text(alloc, "localhost")?,
         port: NAME_PORT,
     })?;
+    Ok(authorities)
+}
+
+/// One naming service, and these words.
+fn run_setup(alloc: Global, words: &[Text]) -> Result<Setup, NoMemory>
+    ensures { IfOk result (λ setup. setup ≡ run_setup words.now) }
+{
+    let words = word_values(alloc, words)?;
+    let authorities = run_authorities(alloc)?;
     Ok(Setup { authorities, words })
 }
 
@@ -99,7 +112,7 @@ fn rest_line(status: u8) -> &'static [u8]
 }
 
 /// What a run that has come to this configuration tells.
-fn told_of(alloc: Global, config: &Config, status: u8) -> Result<Told, NoMemory>
+pub fn told_of(alloc: Global, config: &Config, status: u8) -> Result<Told, NoMemory>
     requires { IsRunStatus status }
     ensures status { IfOk result (λ told. told.status ≡ status) }
     ensures output { IfOk result (λ told. told.output ≡ concat_texts config.now.configuration.output) }
@@ -138,12 +151,33 @@ fn run_program(alloc: Global, program: &Typed, words: &[Text]) -> Result<Told, N
     told_of(alloc, &settled.config, status)
 }
 
-/// Runs the program, unless it names places.
-fn judge_program(alloc: Global, program: &Typed, words: &[Text]) -> Result<Judgement, NoMemory>
+/// Runs the program in a world of one theatre and one naming service. Its text has this hash.
+fn judge_in_world(
+    alloc: Global,
+    program: &Typed,
+    hash: &[u8; 32],
+    words: &[Text],
+) -> Result<Judgement, NoMemory>
+    ensures { IfOk result (λ judgement. IsProgramJudgement program.now words.now judgement) }
+{
+    match run_in_world(alloc, program, hash, words) {
+        Ok(told) => Ok(Judgement::Ran(told)),
+        Err(PlayFault::Differs) => Ok(Judgement::Differs),
+        Err(PlayFault::Memory) => Err(NoMemory),
+    }
+}
+
+/// Runs the program: alone in one theatre, or, where it names places, in a world.
+fn judge_program(
+    alloc: Global,
+    program: &Typed,
+    hash: &[u8; 32],
+    words: &[Text],
+) -> Result<Judgement, NoMemory>
     ensures { IfOk result (λ judgement. IsProgramJudgement program.now words.now judgement) }
 {
     if names_places(program.program()) {
-        Ok(Judgement::Refused(Text::from_text(alloc, "refused form\n")?))
+        judge_in_world(alloc, program, hash, words)
     } else {
         Ok(Judgement::Ran(run_program(alloc, program, words)?))
     }
@@ -154,7 +188,7 @@ pub fn judge_text(alloc: Global, text: &[u8], words: &[Text]) -> Result<Judgemen
     ensures { IfOk result (λ judgement. IsJudgement text.now words.now judgement) }
 {
     match read_program(alloc, text) {
-        Ok(program) => judge_program(alloc, &program, words),
+        Ok(program) => judge_program(alloc, &program, &hash_of(text), words),
         Err(ReadFault::Refused(refusal)) => Ok(Judgement::Refused(refusal.line(alloc)?)),
         Err(ReadFault::Memory) => Err(NoMemory),
     }

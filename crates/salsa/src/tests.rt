@@ -46,8 +46,17 @@ const WORDS: &str =
 const NAMES: &str =
     "behavior X { void act(String[] a) { X x = new X() at (\"uan://localhost/x\"); } }";
 
-const NAMED: &str =
-    "behavior X { void act(String[] a) { X x = X.getReferenceByName(\"uan://localhost/x\"); } }";
+const LATE_NAME: &str =
+    "behavior X { int v; X(int k) { v = k; } int who() { return v; } } behavior S { void make() { X x = new X(7) at (\"uan://localhost/late\"); } void act(String[] a) { X r = X.getReferenceByName(\"uan://localhost/late\"); r<-who() @ standardOutput<-println(token); self<-make():delay(2000); } }";
+
+const TAKEN: &str =
+    "behavior X { int v; X(int k) { v = k; } int who() { return v; } } behavior S { void act(String[] a) { X p = new X(1) at (\"uan://localhost/x\"); X q = new X(2) at (\"uan://localhost/x\"); q<-who() @ standardOutput<-println(token); } }";
+
+const NOWHERE: &str =
+    "behavior X { void act(String[] a) { X x = X.getReferenceByName(\"uan://localhost/x\"); x<-act(a) @ standardOutput<-println(\"never\"); standardOutput<-println(\"here\"); } }";
+
+const NAMED_MOVES: &str =
+    "behavior X { int n() { return 1; } } behavior M { void act(String[] a) { self<-migrate(\"rmsp://nowhere/\") @ standardOutput<-println(\"here\"); self<-migrate(\"x\"); X x = new X() at (\"uan://localhost/x\"); x<-n() @ standardOutput<-println(token); } }";
 
 const HEAD: &str = "behavior A { void act(String[] a) { standardOutput<-print(\"x\")";
 
@@ -133,8 +142,10 @@ fn programs_run_or_are_refused(rt: HostRuntime) -> Result<(), Fail> {
         (ORDER, 0, "abcd", ""),
         (LATE, 0, "soon\nlate\n", ""),
         (WORDS, 0, "xyz", ""),
-        (NAMES, 2, "", "refused form\n"),
-        (NAMED, 2, "", "refused form\n"),
+        (NAMES, 0, "", ""),
+        (LATE_NAME, 0, "7\n", ""),
+        (TAKEN, 0, "1\n", "fault anon:0:0 1 name-taken\n"),
+        (NOWHERE, 0, "here\n", ""),
         (NO_RESULT, 2, "", "refused Y8 at 17\n"),
     ] {
         let it = left_by(alloc, &["run", "p", "x", "yz"], text, List::new(alloc))?;

@@ -63,6 +63,7 @@ fn run_file<F: Files, O: Sink, E: Sink>(
     match judge_text(alloc, bytes.as_slice(), words) {
         Ok(Judgement::Ran(told)) => tell(&told, out, err),
         Ok(Judgement::Refused(line)) => put(err, line.as_bytes(), 2),
+        Ok(Judgement::Differs) => put(err, b"audit refused result\n", 10),
         Err(NoMemory) => put(err, b"no memory\n", 7),
     }
 }

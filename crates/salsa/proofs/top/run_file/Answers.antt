@@ -3,7 +3,7 @@ use Rattle.salsa.specs.declared.run.Judgement.{Judgement}
 use Rattle.salsa.specs.declared.run.Judgement.TheVariants.{Refused, Ran}
 use Rattle.salsa.specs.Top.{IsJudgement, Puts}
 use Rattle.salsa.proofs.Judging.{judged_on_file}
-use Rattle.salsa.proofs.Causes.{fault_cause, memory_cause, refused_cause, ran_cause}
+use Rattle.salsa.proofs.Causes.{fault_cause, memory_cause, differs_cause, refused_cause, ran_cause}
 use Rattle.salsa.proofs.top.run_file.Goals as goal
 
 pub returns-in-Err-Failed-clause-cause : goal.returns-in-Err-Failed-clause-cause
@@ -26,6 +26,9 @@ returns-in-Ok-Refused-clause-cause g c =
     refused_cause _ _ _ _ _ c.requires c.in-Ok-Refused.line
     (judged_on_file (g.F.Files.state c.args.files.now).held c.args.name.now c.in-Ok.bytes c.as_slice.result.now c.args.words.now (Refused c.in-Ok-Refused.line) c.in-Ok.ensures.bytes c.as_slice.ensures j)
     (subst P c.as_bytes.ensures c.put-in-Ok-Refused.ensures) refl
+
+pub returns-in-Ok-Differs-clause-cause : goal.returns-in-Ok-Differs-clause-cause
+returns-in-Ok-Differs-clause-cause g c = differs_cause _ _ _ _ _ c.put-in-Ok-Differs.ensures refl
 
 pub returns-clause-cause : goal.returns-clause-cause
 returns-clause-cause g c = memory_cause _ _ _ _ _ c.put-in-Err.ensures refl
