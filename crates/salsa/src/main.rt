@@ -13,6 +13,7 @@ mod real;
 mod refusal;
 mod run;
 mod top;
+mod tour;
 mod words;
 
 use real::{RealFiles, RealSink};

@@ -104,7 +104,7 @@ fn fault_lines(alloc: Global, faults: &[Fault]) -> Result<List<u8>, NoMemory>
 }
 
 /// The line of one of a run's statuses.
-fn rest_line(status: u8) -> &'static [u8]
+pub fn rest_line(status: u8) -> &'static [u8]
     requires { IsRunStatus status }
     ensures { result.now ≡ status_line status }
 {

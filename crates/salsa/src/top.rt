@@ -8,8 +8,10 @@ use crate::audit::audit_named;
 use crate::outside::{Failed, Files, OutsideFault, Sink};
 use crate::read::read_program;
 use crate::refusal::{ReadFault, Refusal};
+use crate::tour::tour;
 use crate::run::{Judgement, Told, are_legal, judge_text};
 use sal_ast::LONGEST_PROGRAM;
+use sal_literals::read_number;
 use sal_value::{NoMemory, Text};
 use std::alloc::Global;
 
@@ -29,7 +31,7 @@ pub fn put<S: Sink>(sink: &mut S, bytes: &[u8], status: u8) -> u8
 
 /// Puts what a run tells: first the output, and then the errors.
 #[tactic(auto, using(crate::proofs::Telling::both_put, crate::proofs::Telling::first_failed))]
-fn tell<O: Sink, E: Sink>(told: &Told, out: &mut O, err: &mut E) -> u8
+pub fn tell<O: Sink, E: Sink>(told: &Told, out: &mut O, err: &mut E) -> u8
     requires { told.now.status ≢ 6 }
     ensures { PutsBoth told.now.status told.now.output told.now.errors result
         (O.state out.old) (E.state err.old) (O.state out.new) (E.state err.new) }
@@ -85,6 +87,17 @@ fn run<F: Files, O: Sink, E: Sink>(
         Ok(true) => run_file(alloc, name, words, files, out, err),
         Ok(false) => put(err, b"usage\n", 1),
         Err(NoMemory) => put(err, b"no memory\n", 7),
+    }
+}
+
+/// Replays the tour of this number, if it is one.
+fn tour_of<O: Sink, E: Sink>(alloc: Global, number: &Text, out: &mut O, err: &mut E) -> u8
+    ensures { TourOrUsage result (number_of number.now) (O.state out.old) (E.state err.old)
+        (O.state out.new) (E.state err.new) }
+{
+    match read_number(number.as_bytes()) {
+        Some(number) => tour(alloc, number, out, err),
+        None => put(err, b"usage\n", 1),
     }
 }
 
@@ -151,6 +164,7 @@ pub fn salsa<F: Files, O: Sink, E: Sink>(
         ("run", _) => run(alloc, name, given, files, out, err),
         ("check", []) => check(alloc, name, files, out, err),
         ("audit", [plan, document]) => { audit_named(alloc, name, plan, document, files, out, err) }
+        ("tour", []) => tour_of(alloc, name, out, err),
         _ => put(err, b"usage\n", 1),
     }
 }
