@@ -11,6 +11,7 @@ mod places;
 mod read;
 mod real;
 mod refusal;
+mod replay;
 mod run;
 mod top;
 mod tour;

@@ -7,6 +7,7 @@ ghost use Rattle.salsa.specs.Top.{check_name, run_call, OnNamed, Puts, PutsBoth,
 use crate::audit::audit_named;
 use crate::outside::{Failed, Files, OutsideFault, Sink};
 use crate::read::read_program;
+use crate::replay::replay_named;
 use crate::refusal::{ReadFault, Refusal};
 use crate::tour::tour;
 use crate::run::{Judgement, Told, are_legal, judge_text};
@@ -164,6 +165,9 @@ pub fn salsa<F: Files, O: Sink, E: Sink>(
         ("run", _) => run(alloc, name, given, files, out, err),
         ("check", []) => check(alloc, name, files, out, err),
         ("audit", [plan, document]) => { audit_named(alloc, name, plan, document, files, out, err) }
+        ("replay", [plan, schedule]) => {
+            replay_named(alloc, name, plan, schedule, files, out, err)
+        }
         ("tour", []) => tour_of(alloc, name, out, err),
         _ => put(err, b"usage\n", 1),
     }
