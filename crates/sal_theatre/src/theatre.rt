@@ -290,14 +290,6 @@ impl Theatre {
         self.finish(alloc, prepared)
     }
 
-    // ---- what it shows
-
-    pub fn state(&self) -> &State
-        ensures { result.now ≡ self.now }
-    {
-        &self.state
-    }
-
     // ---- at rest
 
     /// How many messages are ready.
